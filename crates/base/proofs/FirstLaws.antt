@@ -1,0 +1,60 @@
+-- The first rule that applies. Assumes nothing.
+use Prim.Native.Nat.{ℕ, _<_, _≤_}
+use mathlib.Core.Path.{_≡_, refl, sym, _∙_, ap, subst}
+use mathlib.Core.Logic.{_≢_}
+use mathlib.Core.List.{List, [], _∷_}
+use mathlib.Core.Bool.{Bool, true, false, cond, false≢true, true≢false}
+use lib.Dec.{T, ltb, eqb, ltb→lt}
+use native.Mathlib.Omega.{arith}
+use borrow.Author.Tests.{eqb-true, eqb-false, eq-eqb, ne-eqb}
+use Rattle.base.specs.First.{Rule, first, Clear, Foremost, Rising}
+use Rattle.base.proofs.TestLaws.{Tested, holds, fails, test}
+
+one : (n : ℕ) (b : Bool) (rest k : ℕ) → k < n → cond b n rest ≡ 0 → (b ≡ false) × (rest ≡ 0)
+one n true rest k l e = absurd (let z : n ≡ 0 = e in omega arith)
+one n false rest k l e = (refl, e)
+
+-- an answer of 0: no rule applies
+pub clear : (k : ℕ) (rs : List Rule) → Rising k rs → first rs ≡ 0 → Clear rs
+clear k [] r e = tt
+clear k (q ∷ rs) r e = let o = one (q .0) (q .1) (first rs) k (ltb→lt k (q .0) (r .0)) e in (o .0, clear (q .0) rs (r .1) (o .1))
+
+-- and the other way round
+pub unclear : (rs : List Rule) → Clear rs → first rs ≡ 0
+unclear [] c = refl
+unclear (r ∷ rs) c = ap (λ t. cond t (r .0) (first rs)) (c .0) ∙ unclear rs (c .1)
+
+-- no number at or below the one from which the rules rise is answered, but 0
+above : (k n : ℕ) (rs : List Rule) → Rising k rs → first rs ≡ n → (n ≡ 0 → ⊥) → k < n
+above k n [] r e z = absurd (z (sym e))
+above k n (q ∷ rs) r e z = go (ltb→lt k (q .0) (r .0)) (λ m. above (q .0) n rs (r .1) m z) (q .1) refl
+  where
+    go : k < q .0 → (first rs ≡ n → q .0 < n) → (t : Bool) → q .1 ≡ t → k < n
+    go l ih true f = let m : q .0 ≡ n = ap (λ t. cond t (q .0) (first rs)) (sym f) ∙ e in omega arith
+    go l ih false f = let u : q .0 < n = ih (ap (λ t. cond t (q .0) (first rs)) (sym f) ∙ e) in omega arith
+
+-- exactly then: the answer is n just where rule n applies and no rule before it does
+module _ (n : ℕ) where
+  pub exactly : (k : ℕ) (rs : List Rule) → Rising k rs → first rs ≡ n → Foremost n rs
+  exactly k [] r e = sym e
+  exactly k (q ∷ rs) r e = go (eqb (q .0) n) refl (q .1) refl (exactly (q .0) rs (r .1))
+    where
+      go : (s : Bool) → eqb (q .0) n ≡ s → (t : Bool) → q .1 ≡ t → (first rs ≡ n → Foremost n rs) → cond s (q .1 ≡ true) ((q .1 ≡ false) × Foremost n rs)
+      go true a true b ih = b
+      go true a false b ih =
+          let m : first rs ≡ n = ap (λ t. cond t (q .0) (first rs)) (sym b) ∙ e in
+          let i : q .0 ≡ n = eqb-true (q .0) n a in
+          let l : k < q .0 = ltb→lt k (q .0) (r .0) in
+          let z : n ≡ 0 → ⊥ = λ z. omega arith in
+          let u : q .0 < n = above (q .0) n rs (r .1) m z in
+          absurd (omega arith)
+      go false a true b ih = absurd (eqb-false (q .0) n a (ap (λ t. cond t (q .0) (first rs)) (sym b) ∙ e))
+      go false a false b ih = (b, ih (ap (λ t. cond t (q .0) (first rs)) (sym b) ∙ e))
+
+  pub then : (rs : List Rule) → Foremost n rs → first rs ≡ n
+  then [] f = sym f
+  then (q ∷ rs) f = go (eqb (q .0) n) refl f (then rs)
+    where
+      go : (s : Bool) → eqb (q .0) n ≡ s → cond s (q .1 ≡ true) ((q .1 ≡ false) × Foremost n rs) → (Foremost n rs → first rs ≡ n) → cond (q .1) (q .0) (first rs) ≡ n
+      go true a g ih = ap (λ t. cond t (q .0) (first rs)) g ∙ eqb-true (q .0) n a
+      go false a g ih = ap (λ t. cond t (q .0) (first rs)) (g .0) ∙ ih (g .1)

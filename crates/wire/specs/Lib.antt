@@ -1,0 +1,4 @@
+pub mod Numbers
+pub mod Frame
+pub mod Book
+pub mod Cut
