@@ -1,0 +1,106 @@
+// The code lists of section 9 of the annex: event types and their rows in the ledger, voltages and their levels, causes, and the sets of types.
+ghost use mathlib.Core.Path.{_≡_};
+ghost use Rattle.base.specs.Lists.{listed};
+ghost use Rattle.codes.specs.Codes.{causes, rowOf, levelOf, causeListed, rowHeld};
+
+// How many rows the ledger has, one for each event type, and how many levels: NN, VN, VVN.
+pub const ROWS: u8 = 7;
+
+pub const LEVELS: u8 = 3;
+
+// Section 9.6, as printed.
+const CAUSES: [u8; 22] = [
+    1,
+    2,
+    3,
+    4,
+    9,
+    11,
+    12,
+    13,
+    14,
+    19,
+    21,
+    22,
+    23,
+    24,
+    25,
+    26,
+    29,
+    31,
+    32,
+    33,
+    34,
+    39,
+];
+
+// A set of event types: all, the compliance figures, or none named.
+pub enum Set {
+    All,
+    Std,
+    Unnamed,
+}
+
+// The ledger's row of an event type; ROWS where the type is not listed.
+pub fn row_of(typ: u8) -> u8
+    ensures { λ r. ⌜ r ≡ rowOf typ ⌝ }
+{
+    match typ {
+        11 => 0,
+        12 => 1,
+        13 => 2,
+        14 => 3,
+        15 => 4,
+        16 => 5,
+        2 => 6,
+        _ => ROWS,
+    }
+}
+
+// The level of a voltage code: 0 NN, 1 VN, 2 VVN; LEVELS where the code is not listed.
+pub fn level_of(voltage: u8) -> u8
+    ensures { λ r. ⌜ r ≡ levelOf voltage ⌝ }
+{
+    if voltage == 1 {
+        return 0;
+    }
+    let vn = (2 <= voltage) & (voltage <= 6);
+    if vn {
+        return 1;
+    }
+    if voltage == 7 {
+        return 2;
+    }
+    LEVELS
+}
+
+// The lookup, in the printed table. It looks at every entry, so that it takes as long for one cause as for another.
+fn in_causes(cause: u8) -> bool
+    ensures { λ r. ⌜ r ≡ listed cause causes ⌝ }
+{
+    let mut hit = false;
+    let mut i = 0;
+    while i < 22 {
+        hit = hit | (cause == CAUSES[i]);
+        i += 1;
+    }
+    hit
+}
+
+// Whether a cause is listed; 0 means not recorded and counts as listed.
+pub fn is_cause(cause: u8) -> bool
+    ensures { λ r. ⌜ r ≡ causeListed cause ⌝ }
+{
+    (cause == 0) | in_causes(cause)
+}
+
+// Whether a set holds the type of a row.
+pub fn holds_row(set: Set, row: u8) -> bool
+    ensures { λ r. ⌜ r ≡ rowHeld set row ⌝ }
+{
+    match set {
+        Set::All => row < ROWS,
+        Set::Std => (row == 0) | (row == 1) | (row == 6),
+        Set::Unnamed => row < ROWS,
+    }
+}
