@@ -1,0 +1,61 @@
+-- What judging a record comes to: the answer, and what an accepted record does to a ledger (01, "What one event adds").
+use Prim.Native.Nat.{ℕ}
+use mathlib.Core.List.{List}
+use mathlib.Core.Bool.{Bool, not, cond}
+use lib.Dec.{eqb}
+use Rattle.base.specs.First.{first}
+use Rattle.wire.specs.Frame.{framed, kindOf}
+use Rattle.codes.specs.Codes.{rowOf}
+use Rattle.annex.specs.declared.Figures.{Figures}
+use Rattle.annex.specs.Figures.{nothing}
+use Rattle.annex.specs.Simple.{simpleFigures}
+use Rattle.annex.specs.Stepped.{lastTime, steppedFigures}
+use Rattle.annex.specs.Times.{isShort}
+use Rattle.fields.specs.declared.Sheet.{Sheet}
+use Rattle.fields.specs.declared.Head.{Head}
+use Rattle.fields.specs.Fields.{sheetIn, headIn, simpleIn, stepsIn}
+use Rattle.record.specs.declared.Verdict.{Verdict}
+use Rattle.record.specs.Rules.{rulesAt, rules}
+
+-- a refused record leaves the sheet, marks no number and adds nothing
+abbrev pub refusedWith : Sheet → ℕ → Verdict
+refusedWith sheet answer = record { answer = answer; sheet = sheet; number = 0; events = 0; short = 0; row = 0; figures = nothing }
+
+-- an accepted sheet is the ledger's sheet from then on
+abbrev pub sheetVerdict : Sheet → Verdict
+sheetVerdict next = record { answer = 0; sheet = next; number = 0; events = 0; short = 0; row = 0; figures = nothing }
+
+-- an accepted event: "events taken (short ones included)"; a short one "is accepted and counted as short, and adds to no total"
+unfoldable pub eventVerdict : Sheet → Head → ℕ → Figures → Verdict
+eventVerdict sheet h end figures =
+    record {
+      answer = 0;
+      sheet = sheet;
+      number = h .number;
+      events = 1;
+      short = cond (isShort (h .t0) end) 1 0;
+      row = rowOf (h .typ);
+      figures = cond (isShort (h .t0) end) nothing figures;
+    }
+
+-- what an accepted record of each kind comes to
+abbrev pub acceptedAt : ℕ → List ℕ → Sheet → Verdict
+acceptedAt kind s sheet =
+    cond (eqb kind 1) (sheetVerdict (sheetIn s))
+    (cond (eqb kind 2) (eventVerdict sheet (headIn s) (simpleIn s .t3) (simpleFigures (simpleIn s)))
+    (eventVerdict sheet (headIn s) (lastTime (headIn s .t0) (stepsIn s)) (steppedFigures (headIn s .t0) (stepsIn s))))
+
+unfoldable pub answerAt : ℕ → List ℕ → Sheet → List ℕ → ℕ → ℕ
+answerAt kind s sheet m events = first (rulesAt kind s sheet m events)
+
+unfoldable pub verdictAt : ℕ → List ℕ → Sheet → List ℕ → ℕ → Verdict
+verdictAt kind s sheet m events =
+    cond (eqb (answerAt kind s sheet m events) 0) (acceptedAt kind s sheet) (refusedWith sheet (answerAt kind s sheet m events))
+
+-- the smallest number that applies, 0 for an accepted record
+unfoldable pub recordAnswer : List ℕ → Sheet → List ℕ → ℕ → ℕ
+recordAnswer s sheet m events = first (rules s sheet m events)
+
+unfoldable pub verdictOf : List ℕ → Sheet → List ℕ → ℕ → Verdict
+verdictOf s sheet m events =
+    cond (eqb (recordAnswer s sheet m events) 0) (acceptedAt (kindOf s) s sheet) (refusedWith sheet (recordAnswer s sheet m events))
