@@ -1,3 +1,4 @@
 pub mod FirstLaws
 pub mod TestLaws
 pub mod ListLaws
+pub mod OneOutcome

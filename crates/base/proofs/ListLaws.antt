@@ -1,7 +1,7 @@
 -- Tests and lookups over a list, element by element, as a loop meets them. Assumes nothing.
 use Prim.Native.Nat.{ℕ, zero, suc, _+_, _<_, _≤_}
 use mathlib.Core.Path.{_≡_, refl, ap, _∙_, sym}
-use mathlib.Core.Bool.{Bool, true, false, _&&_, _||_, or-assoc, or-false}
+use mathlib.Core.Bool.{Bool, true, false, _&&_, _||_, or-assoc, or-false, and-assoc, and-true}
 use mathlib.Core.List.{List, [], _∷_}
 use lib.ListN.{length, getD, set, drop, drop-of-length-le}
 use lib.Seq.{drop-cons}
@@ -11,17 +11,12 @@ use native.Mathlib.Nat.{le-of-suc-le-suc, not-suc-le-zero}
 use Rattle.base.specs.Lists.{every, any, listed}
 use Rattle.base.proofs.TestLaws.{and-left, and-right, and-both}
 
--- one element more has passed
-pub every-more : {A : Type 0} (f : A → Bool) (d : A) (i : ℕ) (xs : List A) → i < length xs → f (getD xs i d) ≡ true → every f (drop i xs) ≡ every f (drop (i + 1) xs)
-every-more f d i xs h e = rw (add-one, drop-cons xs i d, e)
+-- a test of every element that has seen the first i, and goes on
+pub every-more : {A : Type 0} (f : A → Bool) (d : A) (i : ℕ) (ok : Bool) (xs : List A) → i < length xs → (ok && every f (drop i xs)) ≡ (ok && f (getD xs i d) && every f (drop (i + 1) xs))
+every-more f d i ok xs h = rw (add-one, drop-cons xs i d) (sym (and-assoc ok (f (getD xs i d)) (every f (drop (suc i) xs))))
 
--- one element fails
-pub every-fails : {A : Type 0} (f : A → Bool) (d : A) (i : ℕ) (xs : List A) → i < length xs → f (getD xs i d) ≡ false → every f (drop i xs) ≡ false
-every-fails f d i xs h e = rw (drop-cons xs i d, e)
-
--- none is left
-pub every-ends : {A : Type 0} (f : A → Bool) (i : ℕ) (xs : List A) → length xs ≤ i → every f (drop i xs) ≡ true
-every-ends f i xs h = rw (drop-of-length-le xs h)
+pub every-ends : {A : Type 0} (f : A → Bool) (i : ℕ) (ok : Bool) (xs : List A) → length xs ≤ i → (ok && every f (drop i xs)) ≡ ok
+every-ends f i ok xs h = rw (drop-of-length-le xs h) (and-true ok)
 
 -- what holds of each holds at an index
 pub every-at : {A : Type 0} (f : A → Bool) (d : A) (xs : List A) → every f xs ≡ true → (i : ℕ) → i < length xs → f (getD xs i d) ≡ true

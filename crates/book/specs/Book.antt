@@ -1,0 +1,58 @@
+-- A book taken record by record: "a refused record is counted and passed over; a broken length counts as one refusal and ends the reading"
+-- (01, "Worked year").
+use Prim.Native.Nat.{ℕ, _+_}
+use mathlib.Core.List.{List, [], _∷_}
+use mathlib.Core.Bool.{Bool, true, false, cond}
+use lib.ListN.{replicate}
+use lib.Dec.{eqb}
+use Rattle.wire.specs.Cut.{recordsOf, endsBy}
+use Rattle.marks.specs.Marks.{mapSize}
+use Rattle.ledger.specs.declared.Ledger.{Ledger}
+use Rattle.ledger.specs.Ledger.{emptyLedger}
+use Rattle.ledger.specs.Take.{unsound, answerOf, ledgerAfter, mapAfter}
+use Rattle.book.specs.declared.Read.{Read}
+
+-- a ledger with its map, and the records refused so far
+pub record State : Type 0 where
+  pub ledger : Ledger
+  pub map : List ℕ
+  pub refused : ℕ
+
+abbrev pub starting : Ledger → List ℕ → State
+starting l m = record { ledger = l; map = m; refused = 0 }
+
+-- one record, as the ledger's `take` takes it
+unfoldable pub takeRecord : State → List ℕ → State
+takeRecord st s =
+    record {
+      ledger = ledgerAfter (st .ledger) (st .map) s;
+      map = mapAfter (st .ledger) (st .map) s;
+      refused = st .refused + cond (eqb (answerOf (st .ledger) (st .map) s) 0) 0 1;
+    }
+
+abbrev pub takeAll : State → List (List ℕ) → State
+takeAll st [] = st
+takeAll st (s ∷ ss) = takeAll (takeRecord st s) ss
+
+-- the reading ends at a broken length
+abbrev pub isBroken : List ℕ → Bool
+isBroken book = eqb (endsBy book) 2
+
+-- the state after the whole records of a book
+abbrev pub afterBook : Ledger → List ℕ → List ℕ → State
+afterBook l m book = takeAll (starting l m) (recordsOf book)
+
+-- "an unsound ledger or a map of another size answers 1, reads nothing and changes nothing"
+unfoldable pub readOf : Ledger → List ℕ → List ℕ → Read
+readOf l m book =
+    cond (unsound l m)
+    (record { answer = 1; ledger = l; refused = 0; broken = false })
+    (record {
+      answer = 0;
+      ledger = afterBook l m book .ledger;
+      refused = afterBook l m book .refused + cond (isBroken book) 1 0;
+      broken = isBroken book;
+    })
+
+unfoldable pub mapRead : Ledger → List ℕ → List ℕ → List ℕ
+mapRead l m book = cond (unsound l m) m (afterBook l m book .map)

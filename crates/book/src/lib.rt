@@ -1,0 +1,72 @@
+// Taking a whole book: a refused record is counted and passed over, and a broken length counts as one refusal and ends the reading.
+ghost use mathlib.Core.Path.{_≡_};
+ghost use mathlib.Core.Bool.{cond};
+ghost use lib.Dec.{eqb};
+ghost use Rattle.book.specs.Book.{readOf, mapRead};
+use ledger::Ledger;
+
+// What reading a book comes to: 1 where nothing was read (an unsound ledger, or a map of another size), else 0; the ledger at the end; the
+// refused records; and whether a broken length ended the reading.
+pub struct Read {
+    pub answer: u8,
+    pub ledger: Ledger,
+    pub refused: u64,
+    pub broken: bool,
+}
+
+// 1 for a refusal, 0 for none.
+fn one_if_refused(answer: u8) -> u64
+    ensures { λ r. ⌜ r ≡ cond (eqb answer 0) 0 1 ⌝ }
+{
+    if answer == 0 { 0 } else { 1 }
+}
+
+// A whole book. Soundness is looked at once: an accepted record keeps a sound ledger sound. The cells are written where they stand.
+pub fn take_book(ledger: Ledger, map: &mut [u8], book: &[u8]) -> Read
+    ensures { λ r. ⌜ (r ≡ readOf ledger (now (map .entry)) (now (book .entry))) × (now (map .exit) ≡ mapRead ledger (now (map .entry)) (now (book .entry))) ⌝ }
+{
+    let mut l = ledger;
+    let mut refused: u64 = 0;
+    if (map.len() != ledger::MAP) | !ledger.sound() {
+        return Read {
+            answer: 1,
+            ledger,
+            refused,
+            broken: false,
+        };
+    }
+    let mut stand = wire::stand_at(book, 0);
+    while stand.which == 0 {
+        let start = stand.start;
+        let end = stand.end;
+        let sheet = l.sheet;
+        let v = record::judge(wire::part(book, start, end), sheet, &map[..], l.events);
+        marks::mark(map, v.number);
+        let f = v.figures;
+        let n = f.customers;
+        let h = f.halves;
+        let at = v.row as usize * 3;
+        let nn = l.cells[at].grown(n[0], h[0]);
+        let vn = l.cells[at + 1].grown(n[1], h[1]);
+        let vvn = l.cells[at + 2].grown(n[2], h[2]);
+        let next = v.sheet;
+        l.cells[at] = nn;
+        l.cells[at + 1] = vn;
+        l.cells[at + 2] = vvn;
+        l.sheet = next;
+        l.events = l.events + v.events;
+        l.short = l.short + v.short;
+        refused += one_if_refused(v.answer);
+        stand = wire::stand_at(book, end);
+    }
+    let broken = stand.which == 2;
+    if broken {
+        refused += 1;
+    }
+    Read {
+        answer: 0,
+        ledger: l,
+        refused,
+        broken,
+    }
+}

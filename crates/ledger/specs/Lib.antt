@@ -1,0 +1,3 @@
+pub mod Ledger
+pub mod Sound
+pub mod Take
