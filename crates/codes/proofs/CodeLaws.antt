@@ -1,0 +1,93 @@
+-- Laws of the code lists: bounds on rows and levels, what the lists hold and what they leave out, computed from the definitions. Assumes nothing.
+use Prim.Native.Nat.{ℕ, zero, suc, _≤_}
+use mathlib.Core.Path.{_≡_, refl}
+use mathlib.Core.Bool.{Bool, true, false, _&&_, _||_, cond}
+use mathlib.Core.List.{List, [], _∷_, map}
+use lib.ListN.{length, replicate}
+use lib.Dec.{eqb, leb}
+use native.Mathlib.Omega.{arith}
+use borrow.Author.Tests.{ne-eqb}
+use Rattle.base.specs.Lists.{place}
+use Rattle.codes.specs.Codes.{types, rows, levels, rowOf, levelOf, causes, causeListed, rowHeld}
+use Rattle.codes.specs.declared.Set.{Set}
+use Rattle.codes.specs.declared.Set.the-variants.{All, Std, Unnamed}
+
+-- the compliance figures by the rows of their types
+pub compliance-by-row : (row : ℕ) → (eqb row 0 || eqb row 1 || eqb row 6) ≡ rowHeld Std row
+unfolding rowHeld
+compliance-by-row zero = refl
+compliance-by-row (suc zero) = refl
+compliance-by-row (suc (suc zero)) = refl
+compliance-by-row (suc (suc (suc zero))) = refl
+compliance-by-row (suc (suc (suc (suc zero)))) = refl
+compliance-by-row (suc (suc (suc (suc (suc zero))))) = refl
+compliance-by-row (suc (suc (suc (suc (suc (suc zero)))))) = refl
+compliance-by-row (suc (suc (suc (suc (suc (suc (suc n))))))) =
+    let m : ℕ = suc (suc (suc (suc (suc (suc (suc n)))))) in
+    rw (ne-eqb m 0 (λ e. omega arith), ne-eqb m 1 (λ e. omega arith), ne-eqb m 6 (λ e. omega arith))
+
+-- no place lies past the end of its list
+place-at-most : (x : ℕ) (xs : List ℕ) → place x xs ≤ length xs
+place-at-most x [] = omega arith
+place-at-most x (y ∷ ys) = go (eqb x y) (place-at-most x ys)
+  where
+    go : (t : Bool) → place x ys ≤ length ys → cond t 0 (suc (place x ys)) ≤ suc (length ys)
+    go true h = omega arith
+    go false h = omega arith
+
+pub row-at-most : (typ : ℕ) → rowOf typ ≤ rows
+unfolding rowOf
+row-at-most typ = place-at-most typ types
+
+pub level-at-most : (voltage : ℕ) → levelOf voltage ≤ levels
+unfolding levelOf
+level-at-most voltage = go (eqb voltage 1) (leb 2 voltage && leb voltage 6) (eqb voltage 7)
+  where
+    go : (a b c : Bool) → cond a 0 (cond b 1 (cond c 2 levels)) ≤ levels
+    go true b c = omega arith
+    go false true c = omega arith
+    go false false true = omega arith
+    go false false false = omega arith
+
+pub cause-zero : causeListed 0 ≡ true
+unfolding causeListed causes
+cause-zero = refl
+
+-- the types of 9.2 in their order, then the group code 1 and two numbers that are no type
+pub rows-computed : map rowOf (11 ∷ 12 ∷ 13 ∷ 14 ∷ 15 ∷ 16 ∷ 2 ∷ 1 ∷ 0 ∷ 17 ∷ []) ≡ (0 ∷ 1 ∷ 2 ∷ 3 ∷ 4 ∷ 5 ∷ 6 ∷ 7 ∷ 7 ∷ 7 ∷ [])
+unfolding rowOf
+rows-computed = refl
+
+-- the voltages 0 to 8
+pub levels-computed : map levelOf (0 ∷ 1 ∷ 2 ∷ 3 ∷ 4 ∷ 5 ∷ 6 ∷ 7 ∷ 8 ∷ []) ≡ (3 ∷ 0 ∷ 1 ∷ 1 ∷ 1 ∷ 1 ∷ 1 ∷ 2 ∷ 3 ∷ [])
+unfolding levelOf
+levels-computed = refl
+
+-- each printed cause is listed
+pub causes-computed : map causeListed causes ≡ replicate 22 true
+unfolding causeListed causes
+causes-computed = refl
+
+-- numbers between and past the printed ones
+pub gaps-computed : map causeListed (5 ∷ 10 ∷ 40 ∷ []) ≡ replicate 3 false
+unfolding causeListed causes
+gaps-computed = refl
+
+-- the rows 0 to 7 in a set
+abbrev pub heldRows : Set → List Bool
+heldRows set = map (rowHeld set) (0 ∷ 1 ∷ 2 ∷ 3 ∷ 4 ∷ 5 ∷ 6 ∷ 7 ∷ [])
+
+-- 'std' holds the rows of 11, 12 and 2 and no other; 'all' and no set named hold the row of each type, and not the row past the last
+pub held-computed :
+    map heldRows (Std ∷ All ∷ Unnamed ∷ [])
+    ≡ ((true ∷ true ∷ false ∷ false ∷ false ∷ false ∷ true ∷ false ∷ [])
+    ∷ (true ∷ true ∷ true ∷ true ∷ true ∷ true ∷ true ∷ false ∷ [])
+    ∷ (true ∷ true ∷ true ∷ true ∷ true ∷ true ∷ true ∷ false ∷ [])
+    ∷ [])
+unfolding rowHeld
+held-computed = refl
+
+-- a request that names no set means 'all'
+pub unnamed-is-all : (row : ℕ) → rowHeld Unnamed row ≡ rowHeld All row
+unfolding rowHeld
+unnamed-is-all row = refl
