@@ -1,0 +1,4 @@
+pub mod FoldLaws
+pub mod Bounds
+pub mod HalfKept
+pub mod OneOutcome

@@ -4,3 +4,4 @@ pub mod Simple
 pub mod Stepped
 pub mod Annex
 pub mod Fraction
+pub mod Bounds

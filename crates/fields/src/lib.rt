@@ -2,7 +2,7 @@
 ghost use mathlib.Core.Path.{_≡_};
 ghost use Prim.Native.Nat.{_+_, _*_, _≤_};
 ghost use Rattle.annex.specs.declared.Figures.{Figures};
-ghost use Rattle.annex.proofs.Bounds.{Timely};
+ghost use Rattle.annex.specs.Bounds.{Timely};
 ghost use Rattle.fields.specs.Fields.{sheetIn, headIn, simpleIn, stepAt, stepsFrom};
 ghost use Rattle.fields.specs.Tests.{inRange, headListed, exceeding, aboveLevel, lateStep, simpleLate, noneThenSome};
 ghost use Rattle.fields.specs.Walk.{begun, walkedStep, walked};

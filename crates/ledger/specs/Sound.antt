@@ -1,6 +1,6 @@
 -- "A ledger is sound if: without a sheet all is zero; a sheet is in range; events are at most 65,535; short ones at most events; every cell at
 -- most events times 10,000,000 customers and events times 12,000,000,000,000 half minutes" (01, "Refusal numbers").
-use Prim.Native.Nat.{ℕ, _+_, _*_, _≤_, _<_}
+use Prim.Native.Nat.{ℕ, _*_, _≤_}
 use mathlib.Core.Path.{_≡_}
 use mathlib.Core.List.{List}
 use mathlib.Core.Bool.{Bool, true, _&&_, _||_, not}
@@ -9,8 +9,8 @@ use lib.Dec.{leb, eqb}
 use Rattle.base.specs.Lists.{every}
 use Rattle.fields.specs.declared.Sheet.{Sheet}
 use Rattle.fields.specs.Tests.{inRange}
-use Rattle.annex.specs.Figures.{customersAt, halvesAt}
 use Rattle.record.specs.declared.Verdict.{Verdict}
+use Rattle.record.specs.Verdict.{Fair}
 use Rattle.ledger.specs.declared.Cell.{Cell}
 use Rattle.ledger.specs.declared.Ledger.{Ledger}
 
@@ -40,12 +40,7 @@ pub record Spare (c : Cell) : Type 0 where
   pub customers : c .customers .0 ≤ 655350000000
   pub halves : c .halves .0 ≤ 786420000000000000
 
--- a verdict that a sound ledger has room for: what `record`'s judging gives for the ledger's own sheet and events
+-- a verdict that a sound ledger has room for
 pub record Fits (l : Ledger) (v : Verdict) : Type 0 where
   pub sound : soundLedger l ≡ true
-  pub row : v .row < 7
-  pub events : l .events + v .events ≤ 65535
-  pub short : v .short ≤ v .events
-  pub few : (level : ℕ) → level < 3 → customersAt (v .figures) level ≤ v .events * 10000000
-  pub brief : (level : ℕ) → level < 3 → halvesAt (v .figures) level ≤ v .events * 12000000000000
-  pub sheet : sheetSound (v .sheet) (l .events + v .events) ≡ true
+  pub fair : Fair (l .sheet) (l .events) v

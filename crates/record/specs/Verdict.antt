@@ -1,19 +1,22 @@
 -- What judging a record comes to: the answer, and what an accepted record does to a ledger (01, "What one event adds").
-use Prim.Native.Nat.{ℕ}
+use Prim.Native.Nat.{ℕ, _+_, _*_, _<_, _≤_}
+use mathlib.Core.Path.{_≡_}
+use mathlib.Core.Logic.{_⊎_}
 use mathlib.Core.List.{List}
-use mathlib.Core.Bool.{Bool, not, cond}
+use mathlib.Core.Bool.{Bool, true, false, not, cond}
 use lib.Dec.{eqb}
 use Rattle.base.specs.First.{first}
 use Rattle.wire.specs.Frame.{framed, kindOf}
-use Rattle.codes.specs.Codes.{rowOf}
+use Rattle.codes.specs.Codes.{rowOf, rows}
 use Rattle.annex.specs.declared.Figures.{Figures}
-use Rattle.annex.specs.Figures.{nothing}
+use Rattle.annex.specs.Figures.{nothing, customersAt, halvesAt}
 use Rattle.annex.specs.Simple.{simpleFigures}
 use Rattle.annex.specs.Stepped.{lastTime, steppedFigures}
 use Rattle.annex.specs.Times.{isShort}
 use Rattle.fields.specs.declared.Sheet.{Sheet}
 use Rattle.fields.specs.declared.Head.{Head}
 use Rattle.fields.specs.Fields.{sheetIn, headIn, simpleIn, stepsIn}
+use Rattle.fields.specs.Tests.{inRange}
 use Rattle.record.specs.declared.Verdict.{Verdict}
 use Rattle.record.specs.Rules.{rulesAt, rules}
 
@@ -59,3 +62,14 @@ recordAnswer s sheet m events = first (rules s sheet m events)
 unfoldable pub verdictOf : List ℕ → Sheet → List ℕ → ℕ → Verdict
 verdictOf s sheet m events =
     cond (eqb (recordAnswer s sheet m events) 0) (acceptedAt (kindOf s) s sheet) (refusedWith sheet (recordAnswer s sheet m events))
+
+-- what judging gives for a sheet in range, or none, and a number of events: a verdict that the ledger has room for
+pub record Fair (sheet : Sheet) (events : ℕ) (v : Verdict) : Type 0 where
+  pub row : v .row < rows
+  pub room : events + v .events ≤ 65535
+  pub one : v .events ≤ 1
+  pub short : v .short ≤ v .events
+  pub few : (level : ℕ) → level < 3 → customersAt (v .figures) level ≤ v .events * 10000000
+  pub brief : (level : ℕ) → level < 3 → halvesAt (v .figures) level ≤ v .events * 12000000000000
+  -- the sheet stays, and an event has one; or the record is the first sheet, in range
+  pub goes-on : ((v .sheet ≡ sheet) × ((sheet .there ≡ true) ⊎ (v .events ≡ 0))) ⊎ ((sheet .there ≡ false) × (v .sheet .there ≡ true) × (inRange (v .sheet) ≡ true) × (v .events ≡ 0))

@@ -1,0 +1,86 @@
+-- No sum of figures wraps, and what an event adds stays within what one event may add: the loop over steps, simple and stepped events.
+-- Assumes nothing.
+use Prim.Native.Nat.{ℕ, _+_, _*_, _-_, _<_, _≤_}
+use mathlib.Core.List.{List, [], _∷_}
+use lib.ListN.{getD}
+use native.Mathlib.Nat.{mul-le-mul-right}
+use native.Mathlib.Omega.{arith}
+use Rattle.base.specs.Lists.{largest, All}
+use Rattle.annex.specs.declared.Figures.{Figures}
+use Rattle.annex.specs.declared.Simple.{Simple}
+use Rattle.annex.specs.declared.Step.{Step}
+use Rattle.annex.specs.Figures.{nothing, customersAt, halvesAt, withStep, Room}
+use Rattle.annex.specs.Simple.{simpleFigures, InOrder}
+use Rattle.annex.specs.Stepped.{steppedFigures}
+use Rattle.annex.specs.Annex.{countsOf, weighed}
+use Rattle.annex.specs.Bounds.{Few, Timely, Within, Ordered}
+use Rattle.annex.proofs.FoldLaws.{each-level, simple-customers, simple-halves, stepped-customers, stepped-halves}
+
+pub few-at : {m : ℕ} {n : List ℕ} → Few m n → (h : ℕ) → h < 3 → getD n h 0 ≤ m
+few-at few = each-level _ (few .nn) (few .vn) (few .vvn)
+
+pub timely-nothing : (last : ℕ) → Timely nothing last
+timely-nothing last = record { nn = omega arith; vn = omega arith; vvn = omega arith }
+
+-- one level of a step
+step-timely : (h n before time : ℕ) → h ≤ 8589934590 * before → n ≤ 4294967295 → before ≤ time → h + 2 * n * (time - before) ≤ 8589934590 * time
+step-timely h n before time p q r =
+    let k : 2 * n * (time - before) ≤ 8589934590 * (time - before) = mul-le-mul-right (time - before) (omega arith) in
+    omega arith
+
+pub timely-step :
+    (f : Figures) (counts : List ℕ) (before time : ℕ) →
+    Timely f before →
+    Few 4294967295 counts →
+    before ≤ time →
+    Timely (withStep f counts (time - before)) time
+unfolding withStep
+timely-step f counts before time t few r =
+    record {
+      nn = step-timely _ _ before time (t .nn) (few .nn) r;
+      vn = step-timely _ _ before time (t .vn) (few .vn) r;
+      vvn = step-timely _ _ before time (t .vvn) (few .vvn) r;
+    }
+
+pub timely-room : (f : Figures) (last : ℕ) → Timely f last → last ≤ 600000 → Room f
+timely-room f last t p = record { nn = omega arith; vn = omega arith; vvn = omega arith }
+
+pub simple-within : (e : Simple) → InOrder e → Few 10000000 (e .n1) → Few 10000000 (e .n2) → (h : ℕ) → h < 3 → Within (simpleFigures e) h
+simple-within e o few1 few2 h l =
+    let a = getD (e .n1) h 0 in
+    let b = getD (e .n2) h 0 in
+    let p : a ≤ 10000000 = few-at few1 h l in
+    let q : b ≤ 10000000 = few-at few2 h l in
+    let one : 2 * a * (e .t1 - e .t0) ≤ 20000000 * (e .t1 - e .t0) = mul-le-mul-right (e .t1 - e .t0) (omega arith) in
+    let two : (a + b) * (e .t2 - e .t1) ≤ 20000000 * (e .t2 - e .t1) = mul-le-mul-right (e .t2 - e .t1) (omega arith) in
+    let three : 2 * b * (e .t3 - e .t2) ≤ 20000000 * (e .t3 - e .t2) = mul-le-mul-right (e .t3 - e .t2) (omega arith) in
+    (omega (arith, simple-customers e h l), omega (arith, simple-halves e h l))
+
+module _ (h : ℕ) (l : h < 3) where
+  largest-within : (ss : List Step) → All (λ (s : Step). Few 10000000 (s .counts)) ss → largest (countsOf h ss) ≤ 10000000
+  largest-within [] few = omega arith
+  largest-within (s ∷ ss) few = omega (arith, few-at (few .0) h l, largest-within ss (few .1))
+
+  weighed-within :
+      (before : ℕ) (ss : List Step) →
+      before ≤ 600000 →
+      Ordered before ss →
+      All (λ (s : Step). Few 10000000 (s .counts)) ss →
+      weighed h before ss + 10000000 * before ≤ 6000000000000
+  weighed-within before [] p o few = omega arith
+  weighed-within before (s ∷ ss) p o few =
+      let one : getD (s .counts) h 0 * (s .time - before) ≤ 10000000 * (s .time - before) = mul-le-mul-right (s .time - before) (few-at (few .0) h l) in
+      omega (arith, weighed-within (s .time) ss (o .1) (o .2) (few .1))
+
+pub stepped-within :
+    (t0 : ℕ) (ss : List Step) →
+    t0 ≤ 600000 →
+    Ordered t0 ss →
+    All (λ (s : Step). Few 10000000 (s .counts)) ss →
+    (h : ℕ) →
+    h < 3 →
+    Within (steppedFigures t0 ss) h
+stepped-within t0 ss p o few h l = (
+  omega (arith, stepped-customers h l t0 ss, largest-within h l ss few),
+  omega (arith, stepped-halves h l t0 ss, weighed-within h l t0 ss p o few),
+)

@@ -1,0 +1,35 @@
+-- Counting in half minutes keeps the half of 003's t_jh: twice the customers times t_jh is a whole number, also where it is odd.
+-- Assumes nothing.
+use Prim.Native.Nat.{ℕ, _+_, _*_, _-_, _<_}
+use mathlib.Core.Path.{_≡_, refl, _∙_, ap}
+use mathlib.Core.List.{[], _∷_}
+use native.Mathlib.Nat.{mul-assoc, mul-one}
+use native.Mathlib.Omega.{arith}
+use Rattle.annex.specs.declared.Simple.{Simple}
+use Rattle.annex.specs.Annex.{simple, njhtjh2}
+use Rattle.annex.specs.Fraction.{whole, times, tjh, Same}
+
+module _ (t0 t1 t2 t3 n1 n2 : ℕ) where
+  twice-top :
+      (n1 * (t1 - t0) * 2 + (n1 + n2) * (t2 - t1) * 1) * 1 + n2 * (t3 - t2) * 2 ≡
+      2 * n1 * (t1 - t0) + (n1 + n2) * (t2 - t1) + 2 * n2 * (t3 - t2)
+  twice-top = omega (arith, mul-assoc 2 n1 (t1 - t0), mul-assoc 2 n2 (t3 - t2))
+
+  -- 2 n1 t_jh = 2 n1 (T1-T0) + (n1+n2)(T2-T1) + 2 n2 (T3-T2); where n1 is 0 there is no t_jh, and both sides are 0
+  pub half-kept :
+      Same
+      (times (tjh t0 t1 t2 t3 n1 n2) (2 * n1))
+      (whole (2 * n1 * (t1 - t0) + (n1 + n2) * (t2 - t1) + 2 * n2 * (t3 - t2)))
+  unfolding tjh
+  half-kept = mul-one _ ∙ ap (λ top. top * (2 * n1)) twice-top
+
+  -- t_jh is a number: with customers interrupted, its bottom is not 0
+  pub bottom-above-zero : 0 < n1 → 0 < tjh t0 t1 t2 t3 n1 n2 .bottom
+  unfolding tjh
+  bottom-above-zero p = omega arith
+
+-- P9: n1 = 3, n2 = 2, times 0, 10, 15, 20: an odd number of half minutes
+pub half-odd :
+    njhtjh2 0 (simple (record { t0 = 0; t1 = 10; t2 = 15; t3 = 20; t4 = 20; n1 = 3 ∷ 0 ∷ 0 ∷ []; n2 = 2 ∷ 0 ∷ 0 ∷ [] })) ≡ 105
+unfolding njhtjh2
+half-odd = refl
