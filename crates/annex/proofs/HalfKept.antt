@@ -3,10 +3,11 @@
 use Prim.Native.Nat.{ℕ, _+_, _*_, _-_, _<_}
 use mathlib.Core.Path.{_≡_, refl, _∙_, ap}
 use mathlib.Core.List.{[], _∷_}
+use lib.ListN.{getD}
 use native.Mathlib.Nat.{mul-assoc, mul-one}
 use native.Mathlib.Omega.{arith}
 use Rattle.annex.specs.declared.Simple.{Simple}
-use Rattle.annex.specs.Annex.{simple, njhtjh2}
+use Rattle.annex.specs.Annex.{simple, njh, njhtjh2}
 use Rattle.annex.specs.Fraction.{whole, times, tjh, Same}
 
 module _ (t0 t1 t2 t3 n1 n2 : ℕ) where
@@ -27,6 +28,15 @@ module _ (t0 t1 t2 t3 n1 n2 : ℕ) where
   pub bottom-above-zero : 0 < n1 → 0 < tjh t0 t1 t2 t3 n1 n2 .bottom
   unfolding tjh
   bottom-above-zero p = omega arith
+
+-- the same of a level of an event: n_jh is n1 there
+pub event-half-kept :
+    (e : Simple) (h : ℕ) →
+    Same
+    (times (tjh (e .t0) (e .t1) (e .t2) (e .t3) (getD (e .n1) h 0) (getD (e .n2) h 0)) (2 * njh h (simple e)))
+    (whole (njhtjh2 h (simple e)))
+unfolding njh njhtjh2
+event-half-kept e h = half-kept (e .t0) (e .t1) (e .t2) (e .t3) (getD (e .n1) h 0) (getD (e .n2) h 0)
 
 -- P9: n1 = 3, n2 = 2, times 0, 10, 15, 20: an odd number of half minutes
 pub half-odd :

@@ -1,0 +1,14 @@
+-- The table's eight entries are the powers of two, each at its own place.
+use borrow.Author.Needs.{needs}
+use Rattle.marks.proofs.BitLaws.{table-of-powers}
+use Rattle.marks.proofs.bit.Statement.{statement}
+use Rattle.marks.proofs.bit.Tie as tie
+
+array-read-result : tie.Need-array-read-result
+array-read-result c = search needs
+
+returns : tie.Need-returns
+returns c = table-of-powers (c .args .k) (c .pre)
+
+pub bit-spec : {M : Type 1} → statement M
+bit-spec = tie.close (tie.spec array-read-result returns)
