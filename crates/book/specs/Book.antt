@@ -5,11 +5,12 @@ use mathlib.Core.List.{List, [], _∷_}
 use mathlib.Core.Bool.{Bool, true, false, cond}
 use lib.ListN.{replicate}
 use lib.Dec.{eqb}
-use Rattle.wire.specs.Cut.{recordsOf, endsBy}
+use Rattle.wire.specs.Cut.{recordsOf, stopFrom, endsBy}
 use Rattle.marks.specs.Marks.{mapSize}
 use Rattle.ledger.specs.declared.Ledger.{Ledger}
 use Rattle.ledger.specs.Ledger.{emptyLedger}
 use Rattle.ledger.specs.Take.{unsound, answerOf, ledgerAfter, mapAfter}
+use Rattle.book.specs.declared.Run.{Run}
 use Rattle.book.specs.declared.Read.{Read}
 
 -- a ledger with its map, and the records refused so far
@@ -41,6 +42,16 @@ isBroken book = eqb (endsBy book) 2
 -- the state after the whole records of a book
 abbrev pub afterBook : Ledger → List ℕ → List ℕ → State
 afterBook l m book = takeAll (starting l m) (recordsOf book)
+
+-- the same, with where and how the reading stopped
+abbrev pub runOf : Ledger → List ℕ → List ℕ → Run
+runOf l m book =
+    record {
+      ledger = afterBook l m book .ledger;
+      refused = afterBook l m book .refused;
+      stop = stopFrom book 0;
+      which = endsBy book;
+    }
 
 -- "an unsound ledger or a map of another size answers 1, reads nothing and changes nothing"
 unfoldable pub readOf : Ledger → List ℕ → List ℕ → Read
