@@ -8,7 +8,8 @@ use native.Mathlib.Nat.{mul-assoc, mul-one}
 use native.Mathlib.Omega.{arith}
 use Rattle.annex.specs.declared.Simple.{Simple}
 use Rattle.annex.specs.Annex.{simple, njh, njhtjh2}
-use Rattle.annex.specs.Fraction.{whole, times, tjh, Same}
+use Rattle.ratio.specs.Fraction.{whole, times, Same}
+use Rattle.annex.specs.Fraction.{tjh}
 
 module _ (t0 t1 t2 t3 n1 n2 : ℕ) where
   twice-top :

@@ -40,7 +40,7 @@ kind-taken kind e = go (test (eqb kind 1)) (test (eqb kind 2)) (test (eqb kind 3
     go (fails a) (fails b) (holds c) = inr (inr (eqb-true _ _ c))
     go (fails a) (fails b) (fails c) =
         let all : byKind kind true true true ≡ false =
-            ap (λ t. cond t true (cond (eqb kind 2) true (cond (eqb kind 3) true false))) a ∙ ap (λ t. cond t true (cond (eqb kind 3) true false)) b ∙ ap (λ t. cond t true false) c in
+        ap (λ t. cond t true (cond (eqb kind 2) true (cond (eqb kind 3) true false))) a ∙ ap (λ t. cond t true (cond (eqb kind 3) true false)) b ∙ ap (λ t. cond t true false) c in
         absurd (mathlib.Core.Bool.true≢false (sym (not-false (byKind kind true true true) e) ∙ all))
 
 -- nothing is within the bounds of no event
@@ -120,7 +120,7 @@ module _ (s : List ℕ) (sheet : Sheet) (m : List ℕ) (events : ℕ) (most : ev
       let there : sheet .there ≡ true = not-false _ (c .1 .1 .0) in
       let few : Few 10000000 (sheet .totals) = range-few sheet (range there) in
       let times : simpleLate (headIn s .typ) (simpleIn s) ≡ false =
-          or-right (leb (minutesIn (sheet .year)) (headIn s .t0)) _ (c .1 .1 .1 .1 .1 .0) in
+      or-right (leb (minutesIn (sheet .year)) (headIn s .t0)) _ (c .1 .1 .1 .1 .1 .0) in
       let counts = c .1 .1 .1 .1 .1 .1 .0 in
       event-fair sheet events (headIn s) _ _ there
       (leb-false 65535 events (c .1 .1 .1 .1 .1 .1 .1 .1 .1 .1 .0))

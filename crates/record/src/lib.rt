@@ -167,7 +167,7 @@ fn judge_stepped(bytes: &[u8], sheet: Sheet, map: &[u8], events: u16) -> Verdict
     }
     let head = fields::head_of(bytes);
     let n = sheet.totals;
-    let w = fields::walk(bytes, steps, n, codes::level_of(head.voltage), head.t0);
+    let w = fields::walk_of(bytes, steps, n, codes::level_of(head.voltage), head.t0);
     let rest = first_of_four(
         w.high,
         false,
