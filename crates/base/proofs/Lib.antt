@@ -1,4 +1,5 @@
 pub mod FirstLaws
 pub mod TestLaws
+pub mod ChainLaws
 pub mod ListLaws
 pub mod OneOutcome

@@ -1,0 +1,5 @@
+pub mod SumLaws
+pub mod AnnexTheorem
+pub mod SoundLaws
+pub mod RunLaws
+pub mod OneOutcome

@@ -1,0 +1,4 @@
+pub mod DivisionLaws
+pub mod RoundLaws
+pub mod Worked
+pub mod OneOutcome

@@ -215,7 +215,7 @@ impl Walk {
 }
 
 // All the steps of a record of kind 3 that states so many.
-pub fn walk(s: &[u8], steps: u8, totals: [u32; 3], level: u8, t0: u32) -> Walk
+pub fn walk_of(s: &[u8], steps: u8, totals: [u32; 3], level: u8, t0: u32) -> Walk
     ensures { λ r. ⌜ r ≡ walked totals level (begun t0) (stepsFrom (now (s .entry)) steps 14) ⌝ }
 {
     let mut w = Walk::begin(t0);

@@ -1,0 +1,5 @@
+pub mod LedgerLaws
+pub mod TakeLaws
+pub mod ExactlyThen
+pub mod SoundLaws
+pub mod OneOutcome

@@ -1,17 +1,24 @@
 -- What a verdict is, by its answer: callers cite these laws and not the definitions. Assumes nothing.
 use Prim.Native.Nat.{ℕ, _≤_}
 use mathlib.Core.Path.{_≡_, refl, sym, _∙_, ap}
-use mathlib.Core.List.{List}
+use mathlib.Core.List.{List, []}
 use mathlib.Core.Bool.{Bool, true, false, cond, not}
-use lib.Dec.{eqb}
+use lib.Dec.{eqb, leb}
 use borrow.Author.Tests.{eq-eqb, ne-eqb, eqb-true, eqb-false, not-false}
-use Rattle.base.specs.First.{first, Clear}
-use Rattle.base.proofs.FirstLaws.{clear}
-use Rattle.base.proofs.TestLaws.{Tested, holds, fails, test}
+use Rattle.base.specs.First.{first, Clear, Foremost}
+use Rattle.base.proofs.FirstLaws.{clear, unclear, then}
+use Rattle.base.proofs.TestLaws.{Tested, holds, fails, test, or-right}
 use Rattle.wire.specs.Frame.{framed, kindOf}
+use Rattle.codes.specs.Codes.{rowOf}
+use Rattle.annex.specs.declared.Figures.{Figures}
+use Rattle.annex.specs.Figures.{nothing}
+use Rattle.annex.specs.Times.{isShort, minutesIn}
 use Rattle.fields.specs.declared.Sheet.{Sheet}
+use Rattle.fields.specs.declared.Head.{Head}
+use Rattle.fields.specs.Fields.{headIn, simpleIn, stepsIn}
+use Rattle.fields.specs.Tests.{simpleLate, anyLate}
 use Rattle.record.specs.declared.Verdict.{Verdict}
-use Rattle.record.specs.Rules.{rules, rulesAt}
+use Rattle.record.specs.Rules.{byKind, rules, rulesAt, firstOf, lengthWrong, sheetMissingOrSecond, notListed, timeWrong, countTooLarge, countTooHigh, someAfterNone, alreadyMarked, ledgerFull}
 use Rattle.record.specs.Verdict.{refusedWith, eventVerdict, acceptedAt, answerAt, verdictAt, recordAnswer, verdictOf}
 
 module _ (kind : ℕ) (s : List ℕ) (sheet : Sheet) (m : List ℕ) (events : ℕ) where
@@ -68,3 +75,67 @@ module _ (s : List ℕ) (sheet : Sheet) (m : List ℕ) (events : ℕ) where
   pub verdict-by-kind : framed s ≡ true → verdictOf s sheet m events ≡ verdictAt (kindOf s) s sheet m events
   unfolding verdictOf verdictAt
   verdict-by-kind e = ap (λ a. cond (eqb a 0) (acceptedAt (kindOf s) s sheet) (refusedWith sheet a)) (framed-by-kind e)
+
+-- the verdict is a refusal by the rule that is foremost, and acceptance where no rule applies
+module _ (kind : ℕ) (s : List ℕ) (sheet : Sheet) (m : List ℕ) (events : ℕ) where
+  pub refused-by : (n : ℕ) → Foremost n (rulesAt kind s sheet m events) → (n ≡ 0 → ⊥) → verdictAt kind s sheet m events ≡ refusedWith sheet n
+  unfolding answerAt
+  refused-by n f = at-refused kind s sheet m events n (then n (rulesAt kind s sheet m events) f)
+
+  pub accepted-by : Clear (rulesAt kind s sheet m events) → verdictAt kind s sheet m events ≡ acceptedAt kind s sheet
+  unfolding answerAt
+  accepted-by c = at-accepted kind s sheet m events (unclear (rulesAt kind s sheet m events) c)
+
+  pub answered-clear : answerAt kind s sheet m events ≡ 0 → Clear (rulesAt kind s sheet m events)
+  unfolding answerAt
+  answered-clear e = clear 2 (rulesAt kind s sheet m events) (tt, (tt, (tt, (tt, (tt, (tt, (tt, (tt, (tt, (tt, (tt, tt))))))))))) e
+
+-- an event of the right length: the tests that are left, in order
+module _ (s : List ℕ) (sheet : Sheet) (m : List ℕ) (events : ℕ) where
+  pub simple-answer :
+      lengthWrong 2 s ≡ false →
+      answerAt 2 s sheet m events ≡
+      firstOf (sheetMissingOrSecond 2 sheet) (notListed 2 s) (timeWrong 2 s sheet) (countTooLarge 2 s sheet)
+      (cond (countTooHigh 2 s) 12 (cond (someAfterNone 2 s) 13 (cond (alreadyMarked 2 s m) 14 (cond (ledgerFull 2 events) 15 0))))
+  unfolding answerAt
+  simple-answer e = rw e
+
+  pub stepped-answer :
+      lengthWrong 3 s ≡ false →
+      answerAt 3 s sheet m events ≡
+      firstOf (sheetMissingOrSecond 3 sheet) (notListed 3 s) (timeWrong 3 s sheet) (countTooLarge 3 s sheet)
+      (cond (countTooHigh 3 s) 12 (cond (alreadyMarked 3 s m) 14 (cond (ledgerFull 3 events) 15 0)))
+  unfolding answerAt
+  stepped-answer e = rw e
+
+-- an event's verdict, short or not
+module _ (sheet : Sheet) (h : Head) (end : ℕ) (f : Figures) where
+  pub event-short :
+      isShort (h .t0) end ≡ true →
+      eventVerdict sheet h end f ≡ record { answer = 0; sheet = sheet; number = h .number; events = 1; short = 1; row = rowOf (h .typ); figures = nothing }
+  unfolding eventVerdict
+  event-short e = rw e
+
+  pub event-counted :
+      isShort (h .t0) end ≡ false →
+      eventVerdict sheet h end f ≡ record { answer = 0; sheet = sheet; number = h .number; events = 1; short = 0; row = rowOf (h .typ); figures = f }
+  unfolding eventVerdict
+  event-counted e = rw e
+
+-- nothing is asked of a kind that is none of the three
+pub no-kind : (kind : ℕ) → (kind ≡ 1 → ⊥) → (kind ≡ 2 → ⊥) → (kind ≡ 3 → ⊥) → byKind kind true true true ≡ false
+no-kind kind a b c = rw (ne-eqb kind 1 a, ne-eqb kind 2 b, ne-eqb kind 3 c)
+
+-- what an accepted simple event's times and an accepted stepped event's times are
+pub simple-timely : (s : List ℕ) (sheet : Sheet) (m : List ℕ) (events : ℕ) → answerAt 2 s sheet m events ≡ 0 → simpleLate (headIn s .typ) (simpleIn s) ≡ false
+simple-timely s sheet m events e =
+    or-right (leb (minutesIn (sheet .year)) (headIn s .t0)) _ (answered-clear 2 s sheet m events e .1 .1 .1 .1 .1 .0)
+
+pub stepped-timely : (s : List ℕ) (sheet : Sheet) (m : List ℕ) (events : ℕ) → answerAt 3 s sheet m events ≡ 0 → anyLate (headIn s .t0) (stepsIn s) ≡ false
+stepped-timely s sheet m events e =
+    or-right (leb (minutesIn (sheet .year)) (headIn s .t0)) _ (answered-clear 3 s sheet m events e .1 .1 .1 .1 .1 .0)
+
+-- a sheet is judged by itself and the sheet before it: map and events do not matter
+pub sheet-alone : (s : List ℕ) (sheet : Sheet) (m : List ℕ) (events : ℕ) → verdictAt 1 s sheet [] 0 ≡ verdictAt 1 s sheet m events
+unfolding verdictAt answerAt
+sheet-alone s sheet m events = refl

@@ -240,6 +240,15 @@ module _ (book : List ℕ) (at : ℕ) where
   pub halted : (whichAt book at ≡ 0 → ⊥) → Halted
   halted h = halted-by h (view book at)
 
+  start-by : View book at → startOf (placeAt book at) at ≡ at
+  start-by (no-record (inl p) over w) = ap (λ (q : Place). startOf q at) p
+  start-by (no-record (inr p) over w) = ap (λ (q : Place). startOf q at) p
+  start-by (one-record p f l) = ap (λ (q : Place). startOf q at) p
+
+  -- what stands at an offset starts there
+  pub starts-there : startOf (placeAt book at) at ≡ at
+  starts-there = start-by (view book at)
+
 -- Whole records, joined and cut apart again.
 abbrev pub Framed : List ℕ → Type 0
 Framed r = framed r ≡ true
@@ -307,3 +316,17 @@ framed-in (suc k) book = framed-turn k book (framed-in k) (test (wholeInFront bo
 pub records-framed : (book : List ℕ) → All Framed (recordsOf book)
 unfolding recordsOf
 records-framed book = framed-in (length book) book
+
+-- there are no more records than bytes
+few-in : (k : ℕ) (book : List ℕ) → length (cutIn k book) ≤ k
+unfolding cutIn
+few-in zero book = omega arith
+few-in (suc k) book = go (wholeInFront book) (few-in k (drop (le16 book 0) book))
+  where
+    go : (t : Bool) → length (cutIn k (drop (le16 book 0) book)) ≤ k → length (cond t (take (le16 book 0) book ∷ cutIn k (drop (le16 book 0) book)) []) ≤ suc k
+    go true h = omega arith
+    go false h = omega arith
+
+pub few-records : (book : List ℕ) → length (recordsOf book) ≤ length book
+unfolding recordsOf
+few-records book = few-in (length book) book

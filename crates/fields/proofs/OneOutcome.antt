@@ -1,0 +1,78 @@
+-- No second outcome meets what a public function of this crate promises. Assumes nothing.
+use mathlib.Core.Path.{refl}
+use Rattle.base.proofs.OneOutcome.{OneOutcome, alike}
+use Rattle.fields.proofs.sheet_of.Kinds as sheet-of-kinds
+use Rattle.fields.proofs.sheet_of.Reads as sheet-of
+use Rattle.fields.proofs.head_of.Kinds as head-of-kinds
+use Rattle.fields.proofs.head_of.Reads as head-of
+use Rattle.fields.proofs.simple_of.Kinds as simple-of-kinds
+use Rattle.fields.proofs.simple_of.Reads as simple-of
+use Rattle.fields.proofs.step_at.Kinds as step-at-kinds
+use Rattle.fields.proofs.step_at.Reads as step-at
+use Rattle.fields.proofs.Sheet.none.Kinds as none-kinds
+use Rattle.fields.proofs.Sheet.none.Reads as none
+use Rattle.fields.proofs.Sheet.in_range.Kinds as in-range-kinds
+use Rattle.fields.proofs.Sheet.in_range.Reads as in-range
+use Rattle.fields.proofs.Head.listed.Kinds as listed-kinds
+use Rattle.fields.proofs.Head.listed.Reads as listed
+use Rattle.fields.proofs.exceeds.Kinds as exceeds-kinds
+use Rattle.fields.proofs.exceeds.Reads as exceeds
+use Rattle.fields.proofs.is_above.Kinds as is-above-kinds
+use Rattle.fields.proofs.is_above.Reads as is-above
+use Rattle.fields.proofs.is_late.Kinds as is-late-kinds
+use Rattle.fields.proofs.is_late.Reads as is-late
+use Rattle.fields.proofs.is_simple_late.Kinds as is-simple-late-kinds
+use Rattle.fields.proofs.is_simple_late.Reads as is-simple-late
+use Rattle.fields.proofs.is_none_then_some.Kinds as is-none-then-some-kinds
+use Rattle.fields.proofs.is_none_then_some.Reads as is-none-then-some
+use Rattle.fields.proofs.Walk.begin.Kinds as begin-kinds
+use Rattle.fields.proofs.Walk.begin.Reads as begin
+use Rattle.fields.proofs.Walk.with.Kinds as with-kinds
+use Rattle.fields.proofs.Walk.with.Reads as with
+use Rattle.fields.proofs.walk_of.Kinds as walk-of-kinds
+use Rattle.fields.proofs.walk_of.Reads as walk-of
+
+pub sheet-of-one : OneOutcome sheet-of-kinds.ps sheet-of-kinds.r sheet-of.Post
+sheet-of-one κs a x y v w p q = (alike p q, refl)
+
+pub head-of-one : OneOutcome head-of-kinds.ps head-of-kinds.r head-of.Post
+head-of-one κs a x y v w p q = (alike p q, refl)
+
+pub simple-of-one : OneOutcome simple-of-kinds.ps simple-of-kinds.r simple-of.Post
+simple-of-one κs a x y v w p q = (alike p q, refl)
+
+pub step-at-one : OneOutcome step-at-kinds.ps step-at-kinds.r step-at.Post
+step-at-one κs a x y v w p q = (alike p q, refl)
+
+pub none-one : OneOutcome none-kinds.ps none-kinds.r none.Post
+none-one κs a x y v w p q = (alike p q, refl)
+
+pub in-range-one : OneOutcome in-range-kinds.ps in-range-kinds.r in-range.Post
+in-range-one κs a x y v w p q = (alike p q, refl)
+
+pub listed-one : OneOutcome listed-kinds.ps listed-kinds.r listed.Post
+listed-one κs a x y v w p q = (alike p q, refl)
+
+pub exceeds-one : OneOutcome exceeds-kinds.ps exceeds-kinds.r exceeds.Post
+exceeds-one κs a x y v w p q = (alike p q, refl)
+
+pub is-above-one : OneOutcome is-above-kinds.ps is-above-kinds.r is-above.Post
+is-above-one κs a x y v w p q = (alike p q, refl)
+
+pub is-late-one : OneOutcome is-late-kinds.ps is-late-kinds.r is-late.Post
+is-late-one κs a x y v w p q = (alike p q, refl)
+
+pub is-simple-late-one : OneOutcome is-simple-late-kinds.ps is-simple-late-kinds.r is-simple-late.Post
+is-simple-late-one κs a x y v w p q = (alike p q, refl)
+
+pub is-none-then-some-one : OneOutcome is-none-then-some-kinds.ps is-none-then-some-kinds.r is-none-then-some.Post
+is-none-then-some-one κs a x y v w p q = (alike p q, refl)
+
+pub begin-one : OneOutcome begin-kinds.ps begin-kinds.r begin.Post
+begin-one κs a x y v w p q = (alike p q, refl)
+
+pub with-one : OneOutcome with-kinds.ps with-kinds.r with.Post
+with-one κs a x y v w p q = (alike p q, refl)
+
+pub walk-of-one : OneOutcome walk-of-kinds.ps walk-of-kinds.r walk-of.Post
+walk-of-one κs a x y v w p q = (alike p q, refl)

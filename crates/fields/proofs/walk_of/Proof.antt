@@ -1,0 +1,100 @@
+-- `walk_of` meets its contract: what the whole walk comes to is at each turn what the walk so far comes to over the steps that are left.
+-- Assumes nothing.
+use borrow.Author.Needs.{needs, elem-fits-field}
+use Prim.Native.Nat.{ℕ, _+_, _*_, _-_, _<_, _≤_}
+use mathlib.Core.Path.{_≡_, refl, ap, sym, _∙_}
+use mathlib.Core.List.{List, map}
+use lib.ListN.{getD}
+use native.Mathlib.Omega.{arith}
+use mir.Syntax.{w32}
+use mir.Val.{Val}
+use denote.Array.{each}
+use denote.Plain.{UInt}
+use denote.Shadow.{shadow}
+use Rattle.annex.specs.Bounds.{Few, Timely}
+use Rattle.annex.proofs.Bounds.{timely-nothing}
+use Rattle.fields.specs.Fields.{stepAt, stepsFrom}
+use Rattle.fields.specs.Walk.{begun, walkedStep, walked}
+use Rattle.fields.proofs.WalkLaws.{timely-kept, one-taken}
+use Rattle.fields.proofs.walk_of.Statement.{statement}
+use Rattle.fields.proofs.walk_of.Tie as tie
+
+-- each element of an array of 32-bit numbers is below 2 ^ 32
+words-few : (n : List ℕ) (us : List Val) → shadow (each ℕ (UInt w32 .own) (map (λ (v : ℕ). v) n) us) → Few 4294967295 n
+words-few n us p =
+    let most : (i : ℕ) → getD n i 0 ≤ 4294967295 =
+    λ i. let below : getD n i 0 < 4294967296 = elem-fits-field w32 w32 n us i p tt .fits in omega arith in
+    record { nn = most 0; vn = most 1; vvn = most 2 }
+
+abbrev Inv-loop : tie.InvT-loop
+Inv-loop s steps totals level t0 w₀ at₀ left₀ w at left =
+    (at + 16 * left ≡ 14 + 16 * steps) ×
+    Timely (w .figures) (w .last) ×
+    (walked totals level (begun t0) (stepsFrom s steps 14) ≡ walked totals level w (stepsFrom s left at))
+
+abbrev μ-loop : tie.MeasureT-loop
+μ-loop s steps totals level t0 w₀ at₀ left₀ w at left = left
+
+begin-requires : tie.Need-begin-requires Inv-loop μ-loop
+begin-requires c κs = search needs
+
+loop-holds : tie.Need-loop-holds Inv-loop μ-loop
+loop-holds c =
+    let a = c .before .before .args in (
+      refl,
+      rw (c .begin .ensures) (timely-nothing (a .t0)),
+      ap (λ w. walked (a .totals) (a .level) w (stepsFrom (a .s .now) (a .steps) 14)) (sym (c .begin .ensures)),
+    )
+
+step-at-requires : tie.Need-step-at-requires Inv-loop μ-loop
+step-at-requires c κs = search needs
+
+with-requires : tie.Need-with-requires Inv-loop μ-loop
+with-requires c κs = c .before .before .loop .inv .1
+
+add-at : tie.Need-add-at Inv-loop μ-loop
+add-at c = search needs
+
+sub-left : tie.Need-sub-left Inv-loop μ-loop
+sub-left c = search needs
+
+loop-less : tie.Need-loop-less Inv-loop μ-loop
+loop-less c = search needs
+
+loop-again : tie.Need-loop-again Inv-loop μ-loop
+loop-again c =
+    let a = c .before .before .before .before .before .before .args in
+    let l = c .before .before .before .loop in
+    let s = a .s .now in
+    let step = c .before .step-at .result in
+    let one : c .with .result ≡ walkedStep (a .totals) (a .level) (l .w) step = c .with .ensures in
+    let read : step ≡ stepAt s (l .at) = c .before .step-at .ensures in
+    let more : 0 < l .left = search needs in (
+      search needs,
+      rw one (timely-kept (a .totals) (a .level) (l .w) step (l .inv .1) (words-few (step .counts) _ (c .before .step-at .ok .1 .1 .1 .0 .1 .1))),
+      l .inv .2
+          ∙ one-taken (a .totals) (a .level) (l .w) s (l .left) (l .at) more
+          ∙ ap (λ w. walked (a .totals) (a .level) w (stepsFrom s (l .left - 1) (l .at + 16)))
+          (sym (one ∙ ap (walkedStep (a .totals) (a .level) (l .w)) read)),
+    )
+
+returns : tie.Need-returns Inv-loop μ-loop
+returns c =
+    let none : c .before .loop .left ≡ 0 = omega arith in
+    sym (c .before .loop .inv .2 ∙ rw none)
+
+pub walk-of-spec : {M : Type 1} → statement M
+walk-of-spec =
+    tie.close
+    (tie.spec
+    Inv-loop
+    μ-loop
+    begin-requires
+    loop-holds
+    step-at-requires
+    with-requires
+    add-at
+    sub-left
+    loop-less
+    loop-again
+    returns)

@@ -1,0 +1,160 @@
+-- A record of another length is 4. Else the steps are walked, each test is made, the first that applies is the answer, and an event to which none
+-- applies adds the figures that its steps fold to. Assumes nothing.
+use mathlib.Core.Path.{_≡_, refl, sym, ap, _∙_}
+use Prim.Native.Nat.{_+_, _*_}
+use mathlib.Core.Bool.{false, _||_, not, cond}
+use lib.ListN.{length}
+use lib.Dec.{leb, ltb, eqb}
+use borrow.Author.Tests.{eqb-false}
+use Rattle.codes.specs.Codes.{levelOf}
+use Rattle.marks.specs.Marks.{marked}
+use Rattle.fields.specs.declared.Head.{Head}
+use Rattle.fields.specs.declared.Walk.{Walk}
+use Rattle.fields.specs.Fields.{headIn, stepsFrom, stepsIn}
+use Rattle.fields.specs.Tests.{headListed}
+use Rattle.fields.specs.Walk.{begun, walked}
+use Rattle.fields.proofs.WalkLaws.{walked-late, walked-over, walked-high, walked-last, walked-figures}
+use Rattle.record.specs.Rules.{firstOf, lengthWrong}
+use Rattle.record.specs.Verdict.{refusedWith, eventVerdict, answerAt}
+use Rattle.record.proofs.JudgeLaws.{refused-by, at-refused, at-accepted, stepped-answer, stepped-timely}
+use borrow.Author.Needs.{needs}
+use Rattle.record.proofs.judge_stepped.Statement.{statement}
+use Rattle.record.proofs.judge_stepped.Tie as tie
+
+-- the length's test is that of the definition
+length-is : (c : tie.After-byte-at) → (ltb (length (c .before .before .before .args .bytes .now)) 14 || eqb (c .byte-at .result) 0 || ltb 64 (c .byte-at .result) || not (eqb (length (c .before .before .before .args .bytes .now)) (14 + 16 * c .byte-at .result))) ≡ lengthWrong 3 (c .before .before .before .args .bytes .now)
+length-is c =
+    let s = c .before .before .before .args .bytes .now in
+    λ i. ltb (length s) 14 || eqb (c .byte-at .ensures i) 0 || ltb 64 (c .byte-at .ensures i) || not (eqb (length s) (14 + 16 * c .byte-at .ensures i))
+
+length-right : (c : tie.Else1) → lengthWrong 3 (c .before .before .before .before .args .bytes .now) ≡ false
+length-right c = sym (length-is (c .before)) ∙ c .if1 .left
+
+-- the walk is over the record's own steps, from its own T0, on its own level
+walk-is : (c : tie.After-walk-of) → c .walk-of .result ≡ walked (c .before .before .before .before .before .before .before .before .args .sheet .totals) (levelOf (headIn (c .before .before .before .before .before .before .before .before .args .bytes .now) .voltage)) (begun (headIn (c .before .before .before .before .before .before .before .before .args .bytes .now) .t0)) (stepsIn (c .before .before .before .before .before .before .before .before .args .bytes .now))
+walk-is c =
+    let a = c .before .before .before .before .before .before .before .before .args in
+    let s = a .bytes .now in
+    let head : c .before .before .before .head-of .result ≡ headIn s = c .before .before .before .head-of .ensures in
+    let level = c .before .level-of .ensures ∙ ap (λ (h : Head). levelOf (h .voltage)) head in
+    c .walk-of .ensures ∙ (λ i. walked (a .sheet .totals) (level i) (begun (head i .t0)) (stepsFrom s (c .before .before .before .before .before .byte-at .ensures i) 14))
+
+-- what is answered is what the rules answer: the walk's tests are those of all the steps
+answer-is : (c : tie.After-first-of) → c .first-of .result ≡ answerAt 3 (c .before .before .before .before .before .before .before .before .before .before .before .before .before .before .before .before .args .bytes .now) (c .before .before .before .before .before .before .before .before .before .before .before .before .before .before .before .before .args .sheet) (c .before .before .before .before .before .before .before .before .before .before .before .before .before .before .before .before .args .map .now) (c .before .before .before .before .before .before .before .before .before .before .before .before .before .before .before .before .args .events)
+answer-is c =
+    let a = c .before .before .before .before .before .before .before .before .before .before .before .before .before .before .before .before .args in
+    let s = a .bytes .now in
+    let totals = a .sheet .totals in
+    let head : c .before .before .before .before .before .before .before .before .before .before .before .head-of .result ≡ headIn s = c .before .before .before .before .before .before .before .before .before .before .before .head-of .ensures in
+    let w = walk-is (c .before .before .before .before .before .before .before .before) in
+    let level = levelOf (headIn s .voltage) in
+    let t0 = headIn s .t0 in
+    let late = ap (λ (x : Walk). x .late) w ∙ walked-late totals level t0 (stepsIn s) in
+    let over = ap (λ (x : Walk). x .over) w ∙ walked-over totals level t0 (stepsIn s) in
+    let high = ap (λ (x : Walk). x .high) w ∙ walked-high totals level t0 (stepsIn s) in
+    let used = c .before .before .before .before .before .before .before .is-marked .ensures ∙ ap (λ (h : Head). marked (a .map .now) (h .number)) head in
+    let rest = c .before .before .before .before .before .before .first-of-four .ensures ∙ (λ i. cond (high i) 12 (cond (used i) 14 (cond (leb 65535 (a .events)) 15 0))) in
+    let known = c .before .before .before .before .listed .ensures ∙ ap headListed head in
+    c .first-of .ensures ∙
+    (λ i. firstOf (not (a .sheet .there)) (not (known i)) (leb (c .before .before .before .minutes-in .ensures i) (head i .t0) || late i) (over i) (rest i)) ∙
+    sym (stepped-answer s (a .sheet) (a .map .now) (a .events) (length-right (c .before .before .before .before .before .before .before .before .before .before .before .before)))
+
+byte-at-requires : tie.Need-byte-at-requires
+byte-at-requires c κs = search needs
+
+cast-size : tie.Need-cast-size
+cast-size c = search needs
+
+mul-size : tie.Need-mul-size
+mul-size c = search needs
+
+add-size : tie.Need-add-size
+add-size c = search needs
+
+refuse-requires : tie.Need-refuse-requires
+refuse-requires c κs = search needs
+
+returns : tie.Need-returns
+returns c =
+    let a = c .before .before .before .before .before .args in
+    c .refuse .ensures ∙
+    sym
+    (refused-by 3 (a .bytes .now) (a .sheet) (a .map .now) (a .events) 4 (refl, sym (length-is (c .before .before)) ∙ c .before .if1 .taken) (eqb-false 4 0 refl))
+
+head-of-requires : tie.Need-head-of-requires
+head-of-requires c κs = search needs
+
+level-of-requires : tie.Need-level-of-requires
+level-of-requires c κs = search needs
+
+walk-of-requires : tie.Need-walk-of-requires
+walk-of-requires c κs = search needs
+
+is-marked-requires : tie.Need-is-marked-requires
+is-marked-requires c κs = search needs
+
+first-of-four-requires : tie.Need-first-of-four-requires
+first-of-four-requires c κs = search needs
+
+listed-requires : tie.Need-listed-requires
+listed-requires c κs = search needs
+
+minutes-in-requires : tie.Need-minutes-in-requires
+minutes-in-requires c κs = search needs
+
+first-of-requires : tie.Need-first-of-requires
+first-of-requires c κs = search needs
+
+refuse-requires-2 : tie.Need-refuse-requires-2
+refuse-requires-2 c κs = search needs
+
+returns-2 : tie.Need-returns-2
+returns-2 c =
+    let a = c .before .before .before .before .before .before .before .before .before .before .before .before .before .before .before .before .before .before .args in
+    let e = answer-is (c .before .before) in
+    c .refuse2 .ensures ∙
+    ap (refusedWith (a .sheet)) e ∙
+    sym (at-refused 3 (a .bytes .now) (a .sheet) (a .map .now) (a .events) _ refl (λ z. c .before .if2 .taken (e ∙ z)))
+
+accept-requires : tie.Need-accept-requires
+accept-requires c κs = search needs
+
+returns-3 : tie.Need-returns-3
+returns-3 c =
+    let a = c .before .before .before .before .before .before .before .before .before .before .before .before .before .before .before .before .before .before .before .args in
+    let s = a .bytes .now in
+    let totals = a .sheet .totals in
+    let level = levelOf (headIn s .voltage) in
+    let t0 = headIn s .t0 in
+    let z = sym (answer-is (c .before .before .before)) ∙ c .before .before .if2 .left in
+    let w = walk-is (c .before .before .before .before .before .before .before .before .before .before .before) in
+    let last = ap (λ (x : Walk). x .last) w ∙ walked-last totals level t0 (stepsIn s) in
+    let figures =
+    ap (λ (x : Walk). x .figures) w ∙
+    walked-figures totals level t0 (stepsIn s) (stepped-timely s (a .sheet) (a .map .now) (a .events) z) in
+    c .accept .ensures ∙
+    (λ i. eventVerdict (a .sheet) (c .before .before .before .before .before .before .before .before .before .before .before .before .before .before .head-of .ensures i) (last i) (figures i)) ∙
+    sym (at-accepted 3 s (a .sheet) (a .map .now) (a .events) z)
+
+pub judge-stepped-spec : {M : Type 1} → statement M
+judge-stepped-spec =
+    tie.close
+    (tie.spec
+    byte-at-requires
+    cast-size
+    mul-size
+    add-size
+    refuse-requires
+    returns
+    head-of-requires
+    level-of-requires
+    walk-of-requires
+    is-marked-requires
+    first-of-four-requires
+    listed-requires
+    minutes-in-requires
+    first-of-requires
+    refuse-requires-2
+    returns-2
+    accept-requires
+    returns-3)
