@@ -1,0 +1,65 @@
+-- "SAIFI = customers / N; SAIDI = half minutes / (2N); CAIDI = half minutes / (2 x customers)" (01, "Indices"; 003, 4.3.1 and 4.3.2).
+use Prim.Native.Nat.{ℕ, _*_}
+use mathlib.Core.Bool.{not, cond}
+use lib.Dec.{eqb}
+use Rattle.ratio.specs.declared.Fraction.{Fraction}
+use Rattle.ratio.specs.Lowest.{lowestOf}
+use Rattle.decimal.specs.declared.Shown.{Shown}
+use Rattle.decimal.specs.declared.Shown.the-variants as shown
+use Rattle.decimal.specs.Decimal.{shownOf}
+use Rattle.codes.specs.declared.Set.{Set}
+use Rattle.ledger.specs.declared.Cell.{Cell}
+use Rattle.ledger.specs.declared.Ledger.{Ledger}
+use Rattle.ledger.specs.Sound.{soundLedger}
+use Rattle.index.specs.declared.Level.{Level}
+use Rattle.index.specs.declared.Index.{Index}
+use Rattle.index.specs.declared.Index.the-variants.{Saifi, Saidi, Caidi}
+use Rattle.index.specs.declared.Answer.{Answer}
+use Rattle.index.specs.declared.Answer.the-variants.{Is, Refused}
+use Rattle.index.specs.Sums.{totalOf, servedOf}
+
+-- above the line
+abbrev pub topOf : Index → Cell → ℕ
+topOf Saifi sum = sum .customers .0
+topOf Saidi sum = sum .halves .0
+topOf Caidi sum = sum .halves .0
+
+-- below the line: the customers served, or those interrupted
+abbrev pub divisorOf : Index → Cell → ℕ → ℕ
+divisorOf Saifi sum n = n
+divisorOf Saidi sum n = n
+divisorOf Caidi sum n = sum .customers .0
+
+-- half minutes are divided by twice the customers
+abbrev pub weightOf : Index → ℕ
+weightOf Saifi = 1
+weightOf Saidi = 2
+weightOf Caidi = 2
+
+-- 01's formula, before it is brought to lowest terms
+abbrev pub formulaOf : Ledger → Index → Level → Set → Fraction
+formulaOf l index level set =
+    record {
+      top = topOf index (totalOf (l .cells) level set);
+      bottom = weightOf index * divisorOf index (totalOf (l .cells) level set) (servedOf (l .sheet .totals) level);
+    }
+
+-- 17: "SAIFI or SAIDI with no customers, CAIDI with no customers interrupted"
+abbrev pub nobody : Ledger → Index → Level → Set → ℕ
+nobody l index level set = divisorOf index (totalOf (l .cells) level set) (servedOf (l .sheet .totals) level)
+
+-- "they check 1 (the ledger), 5 (no sheet), 17"
+unfoldable pub indexOf : Ledger → Index → Level → Set → Answer
+indexOf l index level set =
+    cond (not (soundLedger l)) (Refused 1)
+    (cond (not (l .sheet .there)) (Refused 5)
+    (cond (eqb (nobody l index level set) 0) (Refused 17)
+    (Is (lowestOf (formulaOf l index level set .top) (formulaOf l index level set .bottom)))))
+
+-- a decimal of an answer; the refusals of the index come first
+abbrev pub shownAnswer : Answer → ℕ → Shown
+shownAnswer (Is f) digits = shownOf f digits
+shownAnswer (Refused n) digits = shown.Refused n
+
+abbrev pub shownIndex : Ledger → Index → Level → Set → ℕ → Shown
+shownIndex l index level set digits = shownAnswer (indexOf l index level set) digits

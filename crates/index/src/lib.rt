@@ -1,0 +1,168 @@
+// SAIFI, SAIDI and CAIDI of a level or the network and a set of event types, as exact fractions in lowest terms and as decimals.
+ghost use mathlib.Core.Path.{_≡_};
+ghost use mathlib.Core.Bool.{cond};
+ghost use Prim.Native.Nat.{ℕ, _+_, _*_, _≤_, _<_};
+ghost use lib.ListN.{getD};
+ghost use Rattle.index.specs.Sums.{plusCell, heldOr, levelSum, networkSum, totalOf, servedOf, Low};
+ghost use Rattle.index.specs.Index.{topOf, divisorOf, weightOf, indexOf, shownIndex};
+use annex::Customers;
+use annex::HalfMinutes;
+use codes::Set;
+use decimal::Shown;
+use ledger::Cell;
+use ledger::Ledger;
+use ratio::Fraction;
+
+// A voltage level, or the whole network.
+pub enum Level {
+    NN,
+    VN,
+    VVN,
+    Network,
+}
+
+pub enum Index {
+    Saifi,
+    Saidi,
+    Caidi,
+}
+
+// An exact fraction, or the number of a refusal.
+pub enum Answer {
+    Is(Fraction),
+    Refused(u8),
+}
+
+// Two sums, customers to customers and half minutes to half minutes.
+fn plus(a: Cell, b: Cell) -> Cell
+    requires { ⌜ (a .customers .0 ≤ 13762350000000) × (b .customers .0 ≤ 13762350000000) × (a .halves .0 + b .halves .0 ≤ 16514820000000000000) ⌝ }
+    ensures { λ r. ⌜ r ≡ plusCell a b ⌝ }
+{
+    Cell {
+        customers: Customers(a.customers.0 + b.customers.0),
+        halves: HalfMinutes(a.halves.0 + b.halves.0),
+    }
+}
+
+// A cell, or nothing where its row is not in the set.
+fn held_or(held: bool, cell: Cell) -> Cell
+    ensures { λ r. ⌜ r ≡ heldOr held cell ⌝ }
+{
+    if held {
+        return cell;
+    }
+    Cell {
+        customers: Customers(0),
+        halves: HalfMinutes(0),
+    }
+}
+
+// The cells of a level, over the rows of a set.
+fn level_sum(cells: [Cell; 21], level: usize, set: Set) -> Cell
+    requires { ⌜ (level < 3) × Low cells ⌝ }
+    ensures { λ r. ⌜ r ≡ levelSum cells level set ⌝ }
+{
+    let mut sum = Cell {
+        customers: Customers(0),
+        halves: HalfMinutes(0),
+    };
+    let mut row: u8 = 0;
+    while row < 7 {
+        let at = row as usize * 3 + level;
+        sum = plus(sum, held_or(codes::holds_row(set, row), cells[at]));
+        row += 1;
+    }
+    sum
+}
+
+// The sums of a level or, level by level, of the network.
+fn total_of(cells: [Cell; 21], level: Level, set: Set) -> Cell
+    requires { ⌜ Low cells ⌝ }
+    ensures { λ r. ⌜ r ≡ totalOf cells level set ⌝ }
+{
+    match level {
+        Level::NN => level_sum(cells, 0, set),
+        Level::VN => level_sum(cells, 1, set),
+        Level::VVN => level_sum(cells, 2, set),
+        Level::Network => plus(
+            plus(level_sum(cells, 0, set), level_sum(cells, 1, set)),
+            level_sum(cells, 2, set),
+        ),
+    }
+}
+
+// The customers served on a level or in the network: N.
+fn served(totals: [u32; 3], level: Level) -> u64
+    ensures { λ r. ⌜ (r ≡ servedOf totals level) × (r ≤ 12884901885) ⌝ }
+{
+    match level {
+        Level::NN => totals[0] as u64,
+        Level::VN => totals[1] as u64,
+        Level::VVN => totals[2] as u64,
+        Level::Network => totals[0] as u64 + totals[1] as u64 + totals[2] as u64,
+    }
+}
+
+// The number above the line: customers, or half minutes.
+fn top(index: Index, sum: Cell) -> u64
+    ensures { λ r. ⌜ r ≡ topOf index sum ⌝ }
+{
+    match index {
+        Index::Saifi => sum.customers.0,
+        Index::Saidi => sum.halves.0,
+        Index::Caidi => sum.halves.0,
+    }
+}
+
+// The customers below the line: those served, or those interrupted.
+fn divisor(index: Index, sum: Cell, n: u64) -> u64
+    ensures { λ r. ⌜ r ≡ divisorOf index sum n ⌝ }
+{
+    match index {
+        Index::Saifi => n,
+        Index::Saidi => n,
+        Index::Caidi => sum.customers.0,
+    }
+}
+
+// Half minutes are divided by twice the customers.
+fn weight(index: Index) -> u64
+    ensures { λ r. ⌜ (r ≡ weightOf index) × (r ≤ 2) ⌝ }
+{
+    match index {
+        Index::Saifi => 1,
+        Index::Saidi => 2,
+        Index::Caidi => 2,
+    }
+}
+
+// An index as an exact fraction in lowest terms: 1 for an unsound ledger, 5 without a sheet, 17 where it divides by nobody.
+pub fn index_of(ledger: Ledger, index: Index, level: Level, set: Set) -> Answer
+    ensures { λ r. ⌜ r ≡ indexOf ledger index level set ⌝ }
+{
+    if !ledger.sound() {
+        return Answer::Refused(1);
+    }
+    let sheet = ledger.sheet;
+    if !sheet.there {
+        return Answer::Refused(5);
+    }
+    let cells = ledger.cells;
+    let totals = sheet.totals;
+    let sum = total_of(cells, level, set);
+    let d = divisor(index, sum, served(totals, level));
+    if d == 0 {
+        return Answer::Refused(17);
+    }
+    Answer::Is(ratio::lowest(top(index, sum), weight(index) * d))
+}
+
+// The same with so many digits after the point: 18 for more than 6, after 1, 5 and 17.
+pub fn decimal_of(ledger: Ledger, index: Index, level: Level, set: Set, digits: u8) -> Shown
+    ensures { λ r. ⌜ r ≡ shownIndex ledger index level set digits ⌝ }
+{
+    match index_of(ledger, index, level, set) {
+        Answer::Is(f) => decimal::decimal_of(f, digits),
+        Answer::Refused(n) => Shown::Refused(n),
+    }
+}
