@@ -1,7 +1,7 @@
 // The code lists of section 9 of the annex: event types and their rows in the ledger, voltages and their levels, causes, and the sets of types.
 ghost use mathlib.Core.Path.{_≡_};
 ghost use Rattle.base.specs.Lists.{listed};
-ghost use Rattle.codes.specs.Codes.{causes, rowOf, levelOf, causeListed, rowHeld};
+ghost use Rattle.codes.specs.Codes.{rowOf, levelOf, causeListed, rowHeld};
 
 // How many rows the ledger has, one for each event type, and how many levels: NN, VN, VVN.
 pub const ROWS: u8 = 7;
@@ -74,14 +74,14 @@ pub fn level_of(voltage: u8) -> u8
     LEVELS
 }
 
-// The lookup, in the printed table. It looks at every entry, so that it takes as long for one cause as for another.
-fn in_causes(cause: u8) -> bool
-    ensures { λ r. ⌜ r ≡ listed cause causes ⌝ }
+// The lookup, in a table of 22 codes. It looks at every entry, so that it has one way out.
+fn in_table(table: [u8; 22], code: u8) -> bool
+    ensures { λ r. ⌜ r ≡ listed code table ⌝ }
 {
     let mut hit = false;
     let mut i = 0;
     while i < 22 {
-        hit = hit | (cause == CAUSES[i]);
+        hit = hit | (code == table[i]);
         i += 1;
     }
     hit
@@ -91,7 +91,7 @@ fn in_causes(cause: u8) -> bool
 pub fn is_cause(cause: u8) -> bool
     ensures { λ r. ⌜ r ≡ causeListed cause ⌝ }
 {
-    (cause == 0) | in_causes(cause)
+    (cause == 0) | in_table(CAUSES, cause)
 }
 
 // Whether a set holds the type of a row.

@@ -1,15 +1,15 @@
--- `codes::is_cause` meets its contract: it joins the test for 0 with the lookup, as the definition does.
+-- 0 or an entry of the printed table. Assumes nothing.
+use Rattle.codes.specs.Codes.{causes, causeListed}
 use borrow.Author.Needs.{needs}
-use Rattle.codes.specs.Codes.{causeListed}
 use Rattle.codes.proofs.is_cause.Statement.{statement}
 use Rattle.codes.proofs.is_cause.Tie as tie
 
-in-causes-requires : tie.Need-in-causes-requires
-in-causes-requires c κs = search needs
+in-table-requires : tie.Need-in-table-requires
+in-table-requires c κs = search needs
 
 returns : tie.Need-returns
-unfolding causeListed
-returns c = rw (c .in-causes .ensures)
+unfolding causes causeListed
+returns c = rw (c .in-table .ensures)
 
 pub is-cause-spec : {M : Type 1} → statement M
-is-cause-spec = tie.close (tie.spec in-causes-requires returns)
+is-cause-spec = tie.close (tie.spec in-table-requires returns)
