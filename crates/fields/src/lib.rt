@@ -1,6 +1,7 @@
 // The fields of a book's records, read off their bytes, and the tests that 01 makes of them.
 ghost use mathlib.Core.Path.{_≡_};
 ghost use Prim.Native.Nat.{_+_, _*_, _≤_};
+ghost use lib.ListN.{length};
 ghost use Rattle.annex.specs.declared.Figures.{Figures};
 ghost use Rattle.annex.specs.Bounds.{Timely};
 ghost use Rattle.fields.specs.Fields.{sheetIn, headIn, simpleIn, stepAt, stepsFrom};
@@ -60,34 +61,30 @@ pub fn head_of(s: &[u8]) -> Head
     }
 }
 
-// The times and counts of a record of kind 2.
+// The times and counts of a record of kind 2, which has its 53 bytes.
 pub fn simple_of(s: &[u8]) -> Simple
+    requires { ⌜ 53 ≤ length (now s) ⌝ }
     ensures { λ r. ⌜ r ≡ simpleIn (now (s .entry)) ⌝ }
 {
     Simple {
-        t0: wire::u32_at(s, 9),
-        t1: wire::u32_at(s, 13),
-        t2: wire::u32_at(s, 17),
-        t3: wire::u32_at(s, 21),
-        t4: wire::u32_at(s, 25),
-        n1: wire::counts_at(s, 29),
-        n2: wire::counts_at(s, 41),
+        t0: wire::u32_in(s, 9),
+        t1: wire::u32_in(s, 13),
+        t2: wire::u32_in(s, 17),
+        t3: wire::u32_in(s, 21),
+        t4: wire::u32_in(s, 25),
+        n1: wire::counts_in(s, 29),
+        n2: wire::counts_in(s, 41),
     }
 }
 
-// The step at an offset: a time and three counts.
+// The step at an offset: a time and three counts, 16 bytes.
 pub fn step_at(s: &[u8], at: usize) -> Step
+    requires { ⌜ at + 16 ≤ length (now s) ⌝ }
     ensures { λ r. ⌜ r ≡ stepAt (now (s .entry)) at ⌝ }
 {
-    if s.len() <= at {
-        return Step {
-            time: 0,
-            counts: [0, 0, 0],
-        };
-    }
     Step {
-        time: wire::u32_at(s, at),
-        counts: wire::counts_at(s, at + 4),
+        time: wire::u32_in(s, at),
+        counts: wire::counts_in(s, at + 4),
     }
 }
 
@@ -214,8 +211,9 @@ impl Walk {
     }
 }
 
-// All the steps of a record of kind 3 that states so many.
+// All the steps of a record of kind 3 that states so many, and has them.
 pub fn walk_of(s: &[u8], steps: u8, totals: [u32; 3], level: u8, t0: u32) -> Walk
+    requires { ⌜ 14 + 16 * steps ≤ length (now s) ⌝ }
     ensures { λ r. ⌜ r ≡ walked totals level (begun t0) (stepsFrom (now (s .entry)) steps 14) ⌝ }
 {
     let mut w = Walk::begin(t0);

@@ -9,6 +9,10 @@ use Rattle.wire.proofs.u32_at.Kinds as u32-at-kinds
 use Rattle.wire.proofs.u32_at.Reads as u32-at
 use Rattle.wire.proofs.counts_at.Kinds as counts-at-kinds
 use Rattle.wire.proofs.counts_at.Reads as counts-at
+use Rattle.wire.proofs.u32_in.Kinds as u32-in-kinds
+use Rattle.wire.proofs.u32_in.Reads as u32-in
+use Rattle.wire.proofs.counts_in.Kinds as counts-in-kinds
+use Rattle.wire.proofs.counts_in.Reads as counts-in
 use Rattle.wire.proofs.is_framed.Kinds as is-framed-kinds
 use Rattle.wire.proofs.is_framed.Reads as is-framed
 use Rattle.wire.proofs.kind_of.Kinds as kind-of-kinds
@@ -30,6 +34,12 @@ u32-at-one κs a x y v w p q = (alike p q, refl)
 
 pub counts-at-one : OneOutcome counts-at-kinds.ps counts-at-kinds.r counts-at.Post
 counts-at-one κs a x y v w p q = (alike p q, refl)
+
+pub u32-in-one : OneOutcome u32-in-kinds.ps u32-in-kinds.r u32-in.Post
+u32-in-one κs a x y v w p q = (alike p q, refl)
+
+pub counts-in-one : OneOutcome counts-in-kinds.ps counts-in-kinds.r counts-in.Post
+counts-in-one κs a x y v w p q = (alike p q, refl)
 
 pub is-framed-one : OneOutcome is-framed-kinds.ps is-framed-kinds.r is-framed.Post
 is-framed-one κs a x y v w p q = (alike p q, refl)

@@ -1,6 +1,7 @@
 // What bytes say: little-endian numbers in a slice, a record's frame, and what stands at an offset of a book.
 ghost use mathlib.Core.Path.{_≡_};
-ghost use Prim.Native.Nat.{_+_, _*_, _<_};
+ghost use Prim.Native.Nat.{_+_, _*_, _<_, _≤_};
+ghost use lib.ListN.{length};
 ghost use Rattle.wire.specs.Numbers.{byteAt, le16, le32, countsAt};
 ghost use Rattle.wire.specs.Frame.{framed, kindOf};
 ghost use Rattle.wire.specs.Book.{placeAt, standOf, partOf};
@@ -48,8 +49,8 @@ pub fn u16_at(s: &[u8], at: usize) -> u16
     join2(s[at], byte_at(s, at + 1))
 }
 
-// The number of 4 bytes at an offset, of which some may lie past the end.
-fn u32_near_end(s: &[u8], at: usize) -> u32
+// The number of 4 bytes at an offset.
+pub fn u32_at(s: &[u8], at: usize) -> u32
     ensures { λ r. ⌜ r ≡ le32 (now (s .entry)) at ⌝ }
 {
     if s.len() <= at {
@@ -63,48 +64,29 @@ fn u32_near_end(s: &[u8], at: usize) -> u32
     )
 }
 
-// Three of them.
-fn counts_near_end(s: &[u8], at: usize) -> [u32; 3]
+// The three counts at an offset: NN, VN, VVN.
+pub fn counts_at(s: &[u8], at: usize) -> [u32; 3]
     ensures { λ r. ⌜ r ≡ countsAt (now (s .entry)) at ⌝ }
 {
     if s.len() <= at {
         return [0, 0, 0];
     }
-    [
-        u32_near_end(s, at),
-        u32_near_end(s, at + 4),
-        u32_near_end(s, at + 8),
-    ]
+    [u32_at(s, at), u32_at(s, at + 4), u32_at(s, at + 8)]
 }
 
-// The number of 4 bytes at an offset.
-pub fn u32_at(s: &[u8], at: usize) -> u32
+// The same of a number and of counts that lie within the slice, with no test: for callers who know the record's length.
+pub fn u32_in(s: &[u8], at: usize) -> u32
+    requires { ⌜ at + 4 ≤ length (now s) ⌝ }
     ensures { λ r. ⌜ r ≡ le32 (now (s .entry)) at ⌝ }
 {
-    if at < s.len() {
-        if 4 <= s.len() - at {
-            return join4(s[at], s[at + 1], s[at + 2], s[at + 3]);
-        }
-    }
-    u32_near_end(s, at)
+    join4(s[at], s[at + 1], s[at + 2], s[at + 3])
 }
 
-// The three counts at an offset: NN, VN, VVN.
-pub fn counts_at(s: &[u8], at: usize) -> [u32; 3]
+pub fn counts_in(s: &[u8], at: usize) -> [u32; 3]
+    requires { ⌜ at + 12 ≤ length (now s) ⌝ }
     ensures { λ r. ⌜ r ≡ countsAt (now (s .entry)) at ⌝ }
 {
-    if at < s.len() {
-        if 12 <= s.len() - at {
-            let vn = at + 4;
-            let vvn = at + 8;
-            return [
-                join4(s[at], s[at + 1], s[at + 2], s[at + 3]),
-                join4(s[vn], s[vn + 1], s[vn + 2], s[vn + 3]),
-                join4(s[vvn], s[vvn + 1], s[vvn + 2], s[vvn + 3]),
-            ];
-        }
-    }
-    counts_near_end(s, at)
+    [u32_in(s, at), u32_in(s, at + 4), u32_in(s, at + 8)]
 }
 
 // Whether a slice is framed as one record: 4 bytes or more, and the stated length is its own.

@@ -5,7 +5,9 @@ use Prim.Native.Nat.{_+_, _*_}
 use mathlib.Core.Bool.{false, _||_, not, cond}
 use lib.ListN.{length}
 use lib.Dec.{leb, ltb, eqb}
-use borrow.Author.Tests.{eqb-false}
+use borrow.Author.Tests.{eqb-true, eqb-false, not-false}
+use native.Mathlib.Omega.{arith}
+use Rattle.base.proofs.TestLaws.{or-right}
 use Rattle.codes.specs.Codes.{levelOf}
 use Rattle.marks.specs.Marks.{marked}
 use Rattle.fields.specs.declared.Head.{Head}
@@ -88,7 +90,12 @@ level-of-requires : tie.Need-level-of-requires
 level-of-requires c κs = search needs
 
 walk-of-requires : tie.Need-walk-of-requires
-walk-of-requires c κs = search needs
+walk-of-requires c κs =
+    let s = c .before .before .before .before .before .before .before .args .bytes .now in
+    let n = c .before .before .before .before .byte-at .result in
+    let size : length s ≡ 14 + 16 * n =
+    eqb-true _ _ (not-false _ (or-right (ltb (length s) 14 || eqb n 0 || ltb 64 n) _ (c .before .before .before .if1 .left))) in
+    omega arith
 
 is-marked-requires : tie.Need-is-marked-requires
 is-marked-requires c κs = search needs

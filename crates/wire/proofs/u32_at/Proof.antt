@@ -1,8 +1,8 @@
 -- It joins the four bytes that `le32` joins, and past the end all are 0. Assumes nothing.
 use Rattle.wire.proofs.NumberLaws.{le32-past}
 use borrow.Author.Needs.{needs}
-use Rattle.wire.proofs.u32_near_end.Statement.{statement}
-use Rattle.wire.proofs.u32_near_end.Tie as tie
+use Rattle.wire.proofs.u32_at.Statement.{statement}
+use Rattle.wire.proofs.u32_at.Tie as tie
 
 returns : tie.Need-returns
 returns c = le32-past (c .before .before .args .s .now) _ (c .if1 .taken)
@@ -34,8 +34,8 @@ join4-requires c κs = search needs
 returns-2 : tie.Need-returns-2
 returns-2 c = search needs
 
-pub u32-near-end-spec : {M : Type 1} → statement M
-u32-near-end-spec =
+pub u32-at-spec : {M : Type 1} → statement M
+u32-at-spec =
     tie.close
     (tie.spec
     returns
