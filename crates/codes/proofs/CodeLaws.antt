@@ -1,7 +1,7 @@
 -- Laws of the code lists: bounds on rows and levels, what the lists hold and what they leave out, computed from the definitions. Assumes nothing.
-use Prim.Native.Nat.{ℕ, zero, suc, _≤_}
-use mathlib.Core.Path.{_≡_, refl}
-use mathlib.Core.Bool.{Bool, true, false, _&&_, _||_, cond}
+use Prim.Native.Nat.{ℕ, zero, suc, _+_, _-_, _<_, _≤_}
+use mathlib.Core.Path.{_≡_, refl, sym, ap, _∙_}
+use mathlib.Core.Bool.{Bool, true, false, _&&_, _||_, cond, false≢true}
 use mathlib.Core.List.{List, [], _∷_, map}
 use lib.ListN.{length, replicate}
 use lib.Dec.{eqb, leb}
@@ -91,3 +91,30 @@ held-computed = refl
 pub unnamed-is-all : (row : ℕ) → rowHeld Unnamed row ≡ rowHeld All row
 unfolding rowHeld
 unnamed-is-all row = refl
+
+-- faults, planned work, and what is neither
+fault-row : (k : ℕ) → k < 6 → rowOf (11 + k) ≡ k
+unfolding rowOf
+fault-row zero l = refl
+fault-row (suc zero) l = refl
+fault-row (suc (suc zero)) l = refl
+fault-row (suc (suc (suc zero))) l = refl
+fault-row (suc (suc (suc (suc zero)))) l = refl
+fault-row (suc (suc (suc (suc (suc zero))))) l = refl
+fault-row (suc (suc (suc (suc (suc (suc k)))))) l = absurd (omega arith)
+
+pub row-of-fault : (typ : ℕ) → 11 ≤ typ → typ ≤ 16 → rowOf typ ≡ typ - 11
+row-of-fault typ a b =
+    let e : typ ≡ 11 + (typ - 11) = omega arith in
+    ap rowOf e ∙ fault-row (typ - 11) (omega arith)
+
+pub row-of-planned : rowOf 2 ≡ 6
+unfolding rowOf
+row-of-planned = refl
+
+pub row-of-none : (typ : ℕ) → (leb 11 typ && leb typ 16) ≡ false → (typ ≡ 2 → ⊥) → rowOf typ ≡ rows
+unfolding rowOf
+row-of-none typ f p =
+    let out : (n : ℕ) → leb 11 n ≡ true → leb n 16 ≡ true → typ ≡ n → ⊥ =
+    λ n a b e. false≢true (sym f ∙ ap (λ x. leb 11 x && leb x 16) e ∙ (λ i. a i && leb n 16) ∙ b) in
+    rw (ne-eqb typ 11 (out 11 refl refl), ne-eqb typ 12 (out 12 refl refl), ne-eqb typ 13 (out 13 refl refl), ne-eqb typ 14 (out 14 refl refl), ne-eqb typ 15 (out 15 refl refl), ne-eqb typ 16 (out 16 refl refl), ne-eqb typ 2 p)

@@ -45,16 +45,14 @@ pub enum Set {
 pub fn row_of(typ: u8) -> u8
     ensures { λ r. ⌜ r ≡ rowOf typ ⌝ }
 {
-    match typ {
-        11 => 0,
-        12 => 1,
-        13 => 2,
-        14 => 3,
-        15 => 4,
-        16 => 5,
-        2 => 6,
-        _ => ROWS,
+    let fault = (11 <= typ) & (typ <= 16);
+    if fault {
+        return typ - 11;
     }
+    if typ == 2 {
+        return 6;
+    }
+    ROWS
 }
 
 // The level of a voltage code: 0 NN, 1 VN, 2 VVN; LEVELS where the code is not listed.
