@@ -19,6 +19,10 @@ use Rattle.fields.proofs.exceeds.Kinds as exceeds-kinds
 use Rattle.fields.proofs.exceeds.Reads as exceeds
 use Rattle.fields.proofs.is_above.Kinds as is-above-kinds
 use Rattle.fields.proofs.is_above.Reads as is-above
+use Rattle.fields.proofs.figures_exceed.Kinds as figures-exceed-kinds
+use Rattle.fields.proofs.figures_exceed.Reads as figures-exceed
+use Rattle.fields.proofs.figures_above.Kinds as figures-above-kinds
+use Rattle.fields.proofs.figures_above.Reads as figures-above
 use Rattle.fields.proofs.is_late.Kinds as is-late-kinds
 use Rattle.fields.proofs.is_late.Reads as is-late
 use Rattle.fields.proofs.is_simple_late.Kinds as is-simple-late-kinds
@@ -58,6 +62,12 @@ exceeds-one κs a x y v w p q = (alike p q, refl)
 
 pub is-above-one : OneOutcome is-above-kinds.ps is-above-kinds.r is-above.Post
 is-above-one κs a x y v w p q = (alike p q, refl)
+
+pub figures-exceed-one : OneOutcome figures-exceed-kinds.ps figures-exceed-kinds.r figures-exceed.Post
+figures-exceed-one κs a x y v w p q = (alike p q, refl)
+
+pub figures-above-one : OneOutcome figures-above-kinds.ps figures-above-kinds.r figures-above.Post
+figures-above-one κs a x y v w p q = (alike p q, refl)
 
 pub is-late-one : OneOutcome is-late-kinds.ps is-late-kinds.r is-late.Post
 is-late-one κs a x y v w p q = (alike p q, refl)

@@ -1,121 +1,148 @@
 -- What a walk over an event's steps comes to: the tests of all its steps, its last time, and the figures that the annex's fold gives. Assumes nothing.
-use Prim.Native.Nat.{ℕ, zero, suc, _+_, _-_, _<_}
+use Prim.Native.Nat.{ℕ, zero, suc, _+_, _-_, _<_, max}
 use mathlib.Core.Path.{_≡_, refl, sym, ap, _∙_}
 use mathlib.Core.List.{List, [], _∷_}
-use mathlib.Core.Bool.{Bool, true, false, _||_, cond, or-assoc, or-false}
+use mathlib.Core.Bool.{Bool, true, false, _&&_, _||_, cond, or-assoc, or-false}
+use lib.ListN.{getD}
+use lib.Dec.{ltb}
+use native.Mathlib.Omega.{arith}
+use borrow.Author.Tests.{ltb-true, ltb-false, lt-ltb, le-ltb}
 use native.Mathlib.Nat.{not-suc-le-zero}
 use native.Mathlib.Numerals.{sub-one}
-use Rattle.base.specs.Lists.{any}
+use Rattle.base.specs.Lists.{any, largest}
 use Rattle.base.proofs.TestLaws.{or-left, or-right, or-both, Tested, holds, fails, test}
 use Rattle.annex.specs.declared.Step.{Step}
-use Rattle.annex.specs.Figures.{nothing, withStep}
+use Rattle.annex.specs.Figures.{nothing, withStep, customersAt}
+use Rattle.annex.specs.Annex.{countsOf}
+use Rattle.annex.proofs.FoldLaws.{stepped-customers}
 use Rattle.annex.specs.Stepped.{folded, lastTime, steppedFigures}
 use Rattle.annex.specs.Bounds.{Few, Timely}
 use Rattle.annex.proofs.Bounds.{timely-nothing, timely-step}
 use Rattle.fields.specs.declared.Walk.{Walk}
 use Rattle.fields.specs.Fields.{stepAt, stepsFrom}
-use Rattle.fields.specs.Tests.{lateStep, anyLate, exceeding, aboveLevel}
+use Rattle.fields.specs.Tests.{lateStep, anyLate, exceeding, aboveLevel, exceedingFigures, figuresAbove}
 use Rattle.fields.proofs.TestLaws.{in-time}
 use Rattle.fields.specs.Walk.{begun, walkedStep, walked}
 
-module _ (totals : List ℕ) (level : ℕ) where
-  -- a flag that each step raises by a test of that step alone
-  flag-from :
-      (flag : Walk → Bool) (f : Step → Bool) →
-      ((w : Walk) (s : Step) → flag (walkedStep totals level w s) ≡ (flag w || f s)) →
-      (w : Walk) (ss : List Step) →
-      flag (walked totals level w ss) ≡ (flag w || any f ss)
-  flag-from flag f one w [] = sym (or-false (flag w))
-  flag-from flag f one w (s ∷ ss) =
-      flag-from flag f one (walkedStep totals level w s) ss
-      ∙ ap (λ b. b || any f ss) (one w s)
-      ∙ or-assoc (flag w) (f s) (any f ss)
+pub late-from : (w : Walk) (ss : List Step) → walked w ss .late ≡ (w .late || anyLate (w .last) ss)
+unfolding walkedStep
+late-from w [] = sym (or-false (w .late))
+late-from w (s ∷ ss) =
+    late-from (walkedStep w s) ss ∙ or-assoc (w .late) (lateStep (w .last) (s .time)) (anyLate (s .time) ss)
 
-  pub over-from :
-      (w : Walk) (ss : List Step) → walked totals level w ss .over ≡ (w .over || any (λ (st : Step). exceeding totals (st .counts)) ss)
-  unfolding walkedStep
-  over-from = flag-from (λ w. w .over) (λ (st : Step). exceeding totals (st .counts)) (λ w s. refl)
+pub last-from : (w : Walk) (ss : List Step) → walked w ss .last ≡ lastTime (w .last) ss
+unfolding walkedStep
+last-from w [] = refl
+last-from w (s ∷ ss) = last-from (walkedStep w s) ss
 
-  pub high-from :
-      (w : Walk) (ss : List Step) → walked totals level w ss .high ≡ (w .high || any (λ (st : Step). aboveLevel level (st .counts)) ss)
-  unfolding walkedStep
-  high-from = flag-from (λ w. w .high) (λ (st : Step). aboveLevel level (st .counts)) (λ w s. refl)
+pub figures-from :
+    (w : Walk) (ss : List Step) →
+    w .late ≡ false →
+    anyLate (w .last) ss ≡ false →
+    walked w ss .figures ≡ folded (w .figures) (w .last) ss
+unfolding walkedStep
+figures-from w [] e f = refl
+figures-from w (s ∷ ss) e f =
+    let late : (w .late || lateStep (w .last) (s .time)) ≡ false =
+    or-both (w .late) (lateStep (w .last) (s .time)) e (or-left (lateStep (w .last) (s .time)) (anyLate (s .time) ss) f) in
+    figures-from (walkedStep w s) ss late (or-right (lateStep (w .last) (s .time)) (anyLate (s .time) ss) f)
+    ∙ ap (λ b. folded (cond b nothing (withStep (w .figures) (s .counts) (s .time - w .last))) (s .time) ss) late
 
-  pub late-from : (w : Walk) (ss : List Step) → walked totals level w ss .late ≡ (w .late || anyLate (w .last) ss)
-  unfolding walkedStep
-  late-from w [] = sym (or-false (w .late))
-  late-from w (s ∷ ss) =
-      late-from (walkedStep totals level w s) ss ∙ or-assoc (w .late) (lateStep (w .last) (s .time)) (anyLate (s .time) ss)
+module _ (t0 : ℕ) (ss : List Step) where
+  pub walked-late : walked (begun t0) ss .late ≡ anyLate t0 ss
+  walked-late = late-from (begun t0) ss
 
-  pub last-from : (w : Walk) (ss : List Step) → walked totals level w ss .last ≡ lastTime (w .last) ss
-  unfolding walkedStep
-  last-from w [] = refl
-  last-from w (s ∷ ss) = last-from (walkedStep totals level w s) ss
+  pub walked-last : walked (begun t0) ss .last ≡ lastTime t0 ss
+  walked-last = last-from (begun t0) ss
 
-  pub figures-from :
-      (w : Walk) (ss : List Step) →
-      w .late ≡ false →
-      anyLate (w .last) ss ≡ false →
-      walked totals level w ss .figures ≡ folded (w .figures) (w .last) ss
-  unfolding walkedStep
-  figures-from w [] e f = refl
-  figures-from w (s ∷ ss) e f =
-      let late : (w .late || lateStep (w .last) (s .time)) ≡ false =
-      or-both (w .late) (lateStep (w .last) (s .time)) e (or-left (lateStep (w .last) (s .time)) (anyLate (s .time) ss) f) in
-      figures-from (walkedStep totals level w s) ss late (or-right (lateStep (w .last) (s .time)) (anyLate (s .time) ss) f)
-      ∙ ap (λ b. folded (cond b nothing (withStep (w .figures) (s .counts) (s .time - w .last))) (s .time) ss) late
+  pub walked-figures : anyLate t0 ss ≡ false → walked (begun t0) ss .figures ≡ steppedFigures t0 ss
+  walked-figures = figures-from (begun t0) ss refl
 
-  module _ (t0 : ℕ) (ss : List Step) where
-    pub walked-late : walked totals level (begun t0) ss .late ≡ anyLate t0 ss
-    walked-late = late-from (begun t0) ss
+-- a step after which a time has broken a rule, and one after which none has
+pub step-late :
+    (w : Walk) (s : Step) → (w .late || lateStep (w .last) (s .time)) ≡ true → walkedStep w s .figures ≡ nothing
+unfolding walkedStep
+step-late w s e = rw e
 
-    pub walked-over : walked totals level (begun t0) ss .over ≡ any (λ (st : Step). exceeding totals (st .counts)) ss
-    walked-over = over-from (begun t0) ss
+pub step-timed :
+    (w : Walk) (s : Step) →
+    (w .late || lateStep (w .last) (s .time)) ≡ false →
+    walkedStep w s .figures ≡ withStep (w .figures) (s .counts) (s .time - w .last)
+unfolding walkedStep
+step-timed w s e = rw e
 
-    pub walked-high : walked totals level (begun t0) ss .high ≡ any (λ (st : Step). aboveLevel level (st .counts)) ss
-    walked-high = high-from (begun t0) ss
+pub timely-kept :
+    (w : Walk) (s : Step) →
+    Timely (w .figures) (w .last) →
+    Few 4294967295 (s .counts) →
+    Timely (walkedStep w s .figures) (walkedStep w s .last)
+unfolding walkedStep
+timely-kept w s t few = go (test late)
+  where
+    late : Bool
+    late = w .late || lateStep (w .last) (s .time)
 
-    pub walked-last : walked totals level (begun t0) ss .last ≡ lastTime t0 ss
-    walked-last = last-from (begun t0) ss
+    go : Tested late → Timely (cond late nothing (withStep (w .figures) (s .counts) (s .time - w .last))) (s .time)
+    go (holds e) = rw e (timely-nothing (s .time))
+    go (fails e) =
+        rw e
+        (timely-step (w .figures) (s .counts) (w .last) (s .time) t few
+        (in-time (w .last) (s .time) (or-right (w .late) (lateStep (w .last) (s .time)) e) .0))
 
-    pub walked-figures : anyLate t0 ss ≡ false → walked totals level (begun t0) ss .figures ≡ steppedFigures t0 ss
-    walked-figures = figures-from (begun t0) ss refl
+-- one step of those that follow is taken
+pub one-taken :
+    (w : Walk) (s : List ℕ) (k at : ℕ) →
+    0 < k →
+    walked w (stepsFrom s k at) ≡ walked (walkedStep w (stepAt s at)) (stepsFrom s (k - 1) (at + 16))
+one-taken w s zero at h = absurd (not-suc-le-zero h)
+one-taken w s (suc k) at h = rw sub-one
 
-  -- a step after which a time has broken a rule, and one after which none has
-  pub step-late :
-      (w : Walk) (s : Step) → (w .late || lateStep (w .last) (s .time)) ≡ true → walkedStep totals level w s .figures ≡ nothing
-  unfolding walkedStep
-  step-late w s e = rw e
+-- a test of a level's count, made of the largest: some step passes it just where the largest count does
+larger-test : (t a b : ℕ) → ltb t (max a b) ≡ (ltb t a || ltb t b)
+larger-test t a b = go (test (ltb t a)) (test (ltb t b))
+  where
+    go : Tested (ltb t a) → Tested (ltb t b) → ltb t (max a b) ≡ (ltb t a || ltb t b)
+    go (holds x) y = let l = ltb-true t a x in lt-ltb t (max a b) (omega arith) ∙ ap (λ u. u || ltb t b) (sym x)
+    go (fails x) (holds y) = let l = ltb-true t b y in lt-ltb t (max a b) (omega arith) ∙ (λ i. sym x i || sym y i)
+    go (fails x) (fails y) = let l = ltb-false t a x in let k = ltb-false t b y in le-ltb t (max a b) (omega arith) ∙ (λ i. sym x i || sym y i)
 
-  pub step-timed :
-      (w : Walk) (s : Step) →
-      (w .late || lateStep (w .last) (s .time)) ≡ false →
-      walkedStep totals level w s .figures ≡ withStep (w .figures) (s .counts) (s .time - w .last)
-  unfolding walkedStep
-  step-timed w s e = rw e
+largest-test : (t h : ℕ) (ss : List Step) → ltb t (largest (countsOf h ss)) ≡ any (λ (st : Step). ltb t (getD (st .counts) h 0)) ss
+largest-test t h [] = le-ltb t 0 (omega arith)
+largest-test t h (s ∷ ss) = larger-test t (getD (s .counts) h 0) (largest (countsOf h ss)) ∙ ap (λ u. ltb t (getD (s .counts) h 0) || u) (largest-test t h ss)
 
-  pub timely-kept :
-      (w : Walk) (s : Step) →
-      Timely (w .figures) (w .last) →
-      Few 4294967295 (s .counts) →
-      Timely (walkedStep totals level w s .figures) (walkedStep totals level w s .last)
-  unfolding walkedStep
-  timely-kept w s t few = go (test late)
-    where
-      late : Bool
-      late = w .late || lateStep (w .last) (s .time)
+-- tests joined by "or", of each step or of all
+swap-or : (a b c d : Bool) → ((a || b) || (c || d)) ≡ ((a || c) || (b || d))
+swap-or true b c d = refl
+swap-or false true true d = refl
+swap-or false true false d = refl
+swap-or false false c d = refl
 
-      go : Tested late → Timely (cond late nothing (withStep (w .figures) (s .counts) (s .time - w .last))) (s .time)
-      go (holds e) = rw e (timely-nothing (s .time))
-      go (fails e) =
-          rw e
-          (timely-step (w .figures) (s .counts) (w .last) (s .time) t few
-          (in-time (w .last) (s .time) (or-right (w .late) (lateStep (w .last) (s .time)) e) .0))
+any-or : (f g : Step → Bool) (ss : List Step) → any (λ s. f s || g s) ss ≡ (any f ss || any g ss)
+any-or f g [] = refl
+any-or f g (s ∷ ss) = ap (λ u. (f s || g s) || u) (any-or f g ss) ∙ swap-or (f s) (g s) (any f ss) (any g ss)
 
-  -- one step of those that follow is taken
-  pub one-taken :
-      (w : Walk) (s : List ℕ) (k at : ℕ) →
-      0 < k →
-      walked totals level w (stepsFrom s k at) ≡ walked totals level (walkedStep totals level w (stepAt s at)) (stepsFrom s (k - 1) (at + 16))
-  one-taken w s zero at h = absurd (not-suc-le-zero h)
-  one-taken w s (suc k) at h = rw sub-one
+any-and : (a : Bool) (f : Step → Bool) (ss : List Step) → any (λ s. a && f s) ss ≡ (a && any f ss)
+any-and true f ss = refl
+any-and false f [] = refl
+any-and false f (s ∷ ss) = any-and false f ss
+
+pub exceed-by-largest :
+    (totals : List ℕ) (t0 : ℕ) (ss : List Step) → exceedingFigures totals (steppedFigures t0 ss) ≡ any (λ (st : Step). exceeding totals (st .counts)) ss
+exceed-by-largest totals t0 ss =
+    let at : (h : ℕ) → h < 3 → ltb (getD totals h 0) (customersAt (steppedFigures t0 ss) h) ≡ any (λ (st : Step). ltb (getD totals h 0) (getD (st .counts) h 0)) ss =
+    λ h l. ap (ltb (getD totals h 0)) (stepped-customers h l t0 ss) ∙ largest-test (getD totals h 0) h ss in
+    (λ i. at 0 (omega arith) i || at 1 (omega arith) i || at 2 (omega arith) i) ∙
+    sym
+    (any-or (λ st. ltb (getD totals 0 0) (getD (st .counts) 0 0) || ltb (getD totals 1 0) (getD (st .counts) 1 0)) (λ st. ltb (getD totals 2 0) (getD (st .counts) 2 0)) ss ∙
+    ap (λ u. u || any (λ (st : Step). ltb (getD totals 2 0) (getD (st .counts) 2 0)) ss)
+    (any-or (λ st. ltb (getD totals 0 0) (getD (st .counts) 0 0)) (λ st. ltb (getD totals 1 0) (getD (st .counts) 1 0)) ss))
+
+pub above-by-largest :
+    (level t0 : ℕ) (ss : List Step) → figuresAbove level (steppedFigures t0 ss) ≡ any (λ (st : Step). aboveLevel level (st .counts)) ss
+above-by-largest level t0 ss =
+    let at : (h : ℕ) → h < 3 → ltb 0 (customersAt (steppedFigures t0 ss) h) ≡ any (λ (st : Step). ltb 0 (getD (st .counts) h 0)) ss =
+    λ h l. ap (ltb 0) (stepped-customers h l t0 ss) ∙ largest-test 0 h ss in
+    (λ i. (ltb level 1 && at 1 (omega arith) i) || (ltb level 2 && at 2 (omega arith) i)) ∙
+    sym
+    (any-or (λ st. ltb level 1 && ltb 0 (getD (st .counts) 1 0)) (λ st. ltb level 2 && ltb 0 (getD (st .counts) 2 0)) ss ∙
+    (λ i. any-and (ltb level 1) (λ st. ltb 0 (getD (st .counts) 1 0)) ss i || any-and (ltb level 2) (λ st. ltb 0 (getD (st .counts) 2 0)) ss i))

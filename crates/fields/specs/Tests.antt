@@ -7,6 +7,8 @@ use lib.Dec.{leb, ltb, eqb}
 use Rattle.codes.specs.Codes.{rowOf, levelOf, causeListed, rows, levels}
 use Rattle.annex.specs.declared.Simple.{Simple}
 use Rattle.annex.specs.declared.Step.{Step}
+use Rattle.annex.specs.declared.Figures.{Figures}
+use Rattle.annex.specs.Figures.{customersAt}
 use Rattle.fields.specs.declared.Sheet.{Sheet}
 use Rattle.fields.specs.declared.Head.{Head}
 
@@ -31,6 +33,14 @@ exceeding totals counts =
 -- "a count above 0 on a level higher than the event's"
 abbrev pub aboveLevel : ℕ → List ℕ → Bool
 aboveLevel level counts = (ltb level 1 && ltb 0 (getD counts 1 0)) || (ltb level 2 && ltb 0 (getD counts 2 0))
+
+-- the same two tests of figures, whose customers are the largest counts of any step
+abbrev pub exceedingFigures : List ℕ → Figures → Bool
+exceedingFigures totals f =
+    ltb (getD totals 0 0) (customersAt f 0) || ltb (getD totals 1 0) (customersAt f 1) || ltb (getD totals 2 0) (customersAt f 2)
+
+abbrev pub figuresAbove : ℕ → Figures → Bool
+figuresAbove level f = (ltb level 1 && ltb 0 (customersAt f 1)) || (ltb level 2 && ltb 0 (customersAt f 2))
 
 -- "no time is before the one before it"; "other times are at most 600,000"
 abbrev pub lateStep : ℕ → ℕ → Bool

@@ -5,7 +5,7 @@ ghost use lib.ListN.{length};
 ghost use Rattle.annex.specs.declared.Figures.{Figures};
 ghost use Rattle.annex.specs.Bounds.{Timely};
 ghost use Rattle.fields.specs.Fields.{sheetIn, headIn, simpleIn, stepAt, stepsFrom};
-ghost use Rattle.fields.specs.Tests.{inRange, headListed, exceeding, aboveLevel, lateStep, simpleLate, noneThenSome};
+ghost use Rattle.fields.specs.Tests.{inRange, headListed, exceeding, aboveLevel, exceedingFigures, figuresAbove, lateStep, simpleLate, noneThenSome};
 ghost use Rattle.fields.specs.Walk.{begun, walkedStep, walked};
 use annex::Figures;
 use annex::Simple;
@@ -27,12 +27,9 @@ pub struct Head {
     pub t0: u32,
 }
 
-// The steps of an event so far: whether a time broke a rule, a count exceeded its level's customers, or a count stood above the event's level;
-// the last time; and the figures, while no time broke a rule.
+// The steps of an event so far: whether a time broke a rule; the last time; and the figures, while no time broke one.
 pub struct Walk {
     pub late: bool,
-    pub over: bool,
-    pub high: bool,
     pub last: u32,
     pub figures: Figures,
 }
@@ -139,6 +136,21 @@ pub fn is_above(counts: [u32; 3], level: u8) -> bool
     ((level < 1) & (0 < counts[1])) | ((level < 2) & (0 < counts[2]))
 }
 
+// The same two tests of the largest counts of all steps: some step's count exceeds, or stands above, just where the largest does.
+pub fn figures_exceed(figures: Figures, totals: [u32; 3]) -> bool
+    ensures { λ r. ⌜ r ≡ exceedingFigures totals figures ⌝ }
+{
+    let c = figures.customers;
+    ((totals[0] as u64) < c[0].0) | ((totals[1] as u64) < c[1].0) | ((totals[2] as u64) < c[2].0)
+}
+
+pub fn figures_above(figures: Figures, level: u8) -> bool
+    ensures { λ r. ⌜ r ≡ figuresAbove level figures ⌝ }
+{
+    let c = figures.customers;
+    ((level < 1) & (0 < c[1].0)) | ((level < 2) & (0 < c[2].0))
+}
+
 // Whether a step's time is before the one before it, or over 600,000.
 pub fn is_late(time: u32, before: u32) -> bool
     ensures { λ r. ⌜ r ≡ lateStep before time ⌝ }
@@ -175,27 +187,21 @@ impl Walk {
     {
         Walk {
             late: false,
-            over: false,
-            high: false,
             last: t0,
             figures: Figures::none(),
         }
     }
 
     // One step more.
-    pub fn with(self, step: Step, totals: [u32; 3], level: u8) -> Walk
+    pub fn with(self, step: Step) -> Walk
         requires { ⌜ Timely (self .figures) (self .last) ⌝ }
-        ensures { λ r. ⌜ r ≡ walkedStep totals level self step ⌝ }
+        ensures { λ r. ⌜ r ≡ walkedStep self step ⌝ }
     {
         let n = step.counts;
         let late = self.late | is_late(step.time, self.last);
-        let over = self.over | exceeds(n, totals);
-        let high = self.high | is_above(n, level);
         if late {
             return Walk {
                 late: true,
-                over,
-                high,
                 last: step.time,
                 figures: Figures::none(),
             };
@@ -203,8 +209,6 @@ impl Walk {
         let f = self.figures;
         Walk {
             late: false,
-            over,
-            high,
             last: step.time,
             figures: f.with_step(n, step.time - self.last),
         }
@@ -212,15 +216,15 @@ impl Walk {
 }
 
 // All the steps of a record of kind 3 that states so many, and has them.
-pub fn walk_of(s: &[u8], steps: u8, totals: [u32; 3], level: u8, t0: u32) -> Walk
+pub fn walk_of(s: &[u8], steps: u8, t0: u32) -> Walk
     requires { ⌜ 14 + 16 * steps ≤ length (now s) ⌝ }
-    ensures { λ r. ⌜ r ≡ walked totals level (begun t0) (stepsFrom (now (s .entry)) steps 14) ⌝ }
+    ensures { λ r. ⌜ r ≡ walked (begun t0) (stepsFrom (now (s .entry)) steps 14) ⌝ }
 {
     let mut w = Walk::begin(t0);
     let mut at: usize = 14;
     let mut left = steps;
     while 0 < left {
-        w = w.with(step_at(s, at), totals, level);
+        w = w.with(step_at(s, at));
         at += 16;
         left -= 1;
     }

@@ -1,0 +1,4 @@
+pub mod SumLaws
+pub mod IndexLaws
+pub mod AddLaws
+pub mod OneOutcome

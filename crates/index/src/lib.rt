@@ -1,9 +1,7 @@
 // SAIFI, SAIDI and CAIDI of a level or the network and a set of event types, as exact fractions in lowest terms and as decimals.
 ghost use mathlib.Core.Path.{_≡_};
-ghost use mathlib.Core.Bool.{cond};
-ghost use Prim.Native.Nat.{ℕ, _+_, _*_, _≤_, _<_};
-ghost use lib.ListN.{getD};
-ghost use Rattle.index.specs.Sums.{plusCell, heldOr, levelSum, networkSum, totalOf, servedOf, Low};
+ghost use Prim.Native.Nat.{_+_, _≤_, _<_};
+ghost use Rattle.index.specs.Sums.{plusCell, heldOr, levelSum, totalOf, servedOf, Low};
 ghost use Rattle.index.specs.Index.{topOf, divisorOf, weightOf, indexOf, shownIndex};
 use annex::Customers;
 use annex::HalfMinutes;
@@ -91,15 +89,22 @@ fn total_of(cells: [Cell; 21], level: Level, set: Set) -> Cell
     }
 }
 
+// A number of customers, with the bound that its type sets.
+fn wide(x: u32) -> u64
+    ensures { λ r. ⌜ (r ≡ x) × (r ≤ 4294967295) ⌝ }
+{
+    x as u64
+}
+
 // The customers served on a level or in the network: N.
 fn served(totals: [u32; 3], level: Level) -> u64
     ensures { λ r. ⌜ (r ≡ servedOf totals level) × (r ≤ 12884901885) ⌝ }
 {
     match level {
-        Level::NN => totals[0] as u64,
-        Level::VN => totals[1] as u64,
-        Level::VVN => totals[2] as u64,
-        Level::Network => totals[0] as u64 + totals[1] as u64 + totals[2] as u64,
+        Level::NN => wide(totals[0]),
+        Level::VN => wide(totals[1]),
+        Level::VVN => wide(totals[2]),
+        Level::Network => wide(totals[0]) + wide(totals[1]) + wide(totals[2]),
     }
 }
 

@@ -139,3 +139,8 @@ stepped-timely s sheet m events e =
 pub sheet-alone : (s : List ℕ) (sheet : Sheet) (m : List ℕ) (events : ℕ) → verdictAt 1 s sheet [] 0 ≡ verdictAt 1 s sheet m events
 unfolding verdictAt answerAt
 sheet-alone s sheet m events = refl
+
+-- where 10 applies, what comes after it does not matter
+pub ten-hides : (c5 c7 c10 : Bool) → c10 ≡ true → (a b : Bool) (r s : ℕ) → firstOf c5 c7 c10 a r ≡ firstOf c5 c7 c10 b s
+ten-hides c5 c7 c10 e a b r s =
+    ap (λ t. cond c5 5 (cond c7 7 (cond t 10 (cond a 11 r)))) e ∙ ap (λ t. cond c5 5 (cond c7 7 (cond t 10 (cond b 11 s)))) (sym e)

@@ -167,9 +167,11 @@ fn judge_stepped(bytes: &[u8], sheet: Sheet, map: &[u8], events: u16) -> Verdict
     }
     let head = fields::head_of(bytes);
     let n = sheet.totals;
-    let w = fields::walk_of(bytes, steps, n, codes::level_of(head.voltage), head.t0);
+    let level = codes::level_of(head.voltage);
+    let w = fields::walk_of(bytes, steps, head.t0);
+    let f = w.figures;
     let rest = first_of_four(
-        w.high,
+        fields::figures_above(f, level),
         false,
         marks::is_marked(map, head.number),
         65535 <= events,
@@ -178,13 +180,12 @@ fn judge_stepped(bytes: &[u8], sheet: Sheet, map: &[u8], events: u16) -> Verdict
         !sheet.there,
         !head.listed(),
         (annex::minutes_in(sheet.year) <= head.t0) | w.late,
-        w.over,
+        fields::figures_exceed(f, n),
         rest,
     );
     if answer != 0 {
         return refuse(sheet, answer);
     }
-    let f = w.figures;
     accept(sheet, head, w.last, f)
 }
 

@@ -27,13 +27,13 @@ words-few n us p =
     record { nn = most 0; vn = most 1; vvn = most 2 }
 
 abbrev Inv-loop : tie.InvT-loop
-Inv-loop s steps totals level t0 w₀ at₀ left₀ w at left =
+Inv-loop s steps t0 w₀ at₀ left₀ w at left =
     (at + 16 * left ≡ 14 + 16 * steps) ×
     Timely (w .figures) (w .last) ×
-    (walked totals level (begun t0) (stepsFrom s steps 14) ≡ walked totals level w (stepsFrom s left at))
+    (walked (begun t0) (stepsFrom s steps 14) ≡ walked w (stepsFrom s left at))
 
 abbrev μ-loop : tie.MeasureT-loop
-μ-loop s steps totals level t0 w₀ at₀ left₀ w at left = left
+μ-loop s steps t0 w₀ at₀ left₀ w at left = left
 
 begin-requires : tie.Need-begin-requires Inv-loop μ-loop
 begin-requires c κs = search needs
@@ -43,7 +43,7 @@ loop-holds c =
     let a = c .before .before .args in (
       refl,
       rw (c .begin .ensures) (timely-nothing (a .t0)),
-      ap (λ w. walked (a .totals) (a .level) w (stepsFrom (a .s .now) (a .steps) 14)) (sym (c .begin .ensures)),
+      ap (λ w. walked w (stepsFrom (a .s .now) (a .steps) 14)) (sym (c .begin .ensures)),
     )
 
 step-at-requires : tie.Need-step-at-requires Inv-loop μ-loop
@@ -67,15 +67,15 @@ loop-again c =
     let l = c .before .before .before .loop in
     let s = a .s .now in
     let step = c .before .step-at .result in
-    let one : c .with .result ≡ walkedStep (a .totals) (a .level) (l .w) step = c .with .ensures in
+    let one : c .with .result ≡ walkedStep (l .w) step = c .with .ensures in
     let read : step ≡ stepAt s (l .at) = c .before .step-at .ensures in
     let more : 0 < l .left = search needs in (
       search needs,
-      rw one (timely-kept (a .totals) (a .level) (l .w) step (l .inv .1) (words-few (step .counts) _ (c .before .step-at .ok .1 .1 .1 .0 .1 .1))),
+      rw one (timely-kept (l .w) step (l .inv .1) (words-few (step .counts) _ (c .before .step-at .ok .1 .1 .1 .0 .1 .1))),
       l .inv .2
-          ∙ one-taken (a .totals) (a .level) (l .w) s (l .left) (l .at) more
-          ∙ ap (λ w. walked (a .totals) (a .level) w (stepsFrom s (l .left - 1) (l .at + 16)))
-          (sym (one ∙ ap (walkedStep (a .totals) (a .level) (l .w)) read)),
+          ∙ one-taken (l .w) s (l .left) (l .at) more
+          ∙ ap (λ w. walked w (stepsFrom s (l .left - 1) (l .at + 16)))
+          (sym (one ∙ ap (walkedStep (l .w)) read)),
     )
 
 returns : tie.Need-returns Inv-loop μ-loop

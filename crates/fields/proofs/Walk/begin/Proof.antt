@@ -10,7 +10,7 @@ none-requires c κs = search needs
 
 returns : tie.Need-returns
 returns c =
-    λ i. record { late = false; over = false; high = false; last = c .before .args .t0; figures = c .none .ensures i }
+    λ i. record { late = false; last = c .before .args .t0; figures = c .none .ensures i }
 
 pub begin-spec : {M : Type 1} → statement M
 begin-spec = tie.close (tie.spec none-requires returns)
