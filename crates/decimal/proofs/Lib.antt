@@ -1,4 +1,3 @@
 pub mod DivisionLaws
 pub mod RoundLaws
-pub mod Worked
 pub mod OneOutcome
