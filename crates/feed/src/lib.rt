@@ -45,7 +45,7 @@ fn move_to_front(buffer: &mut [u8], start: usize, end: usize)
 }
 
 // Takes the whole records among the first `filled` bytes of the buffer. 1, and nothing changed, for an unsound ledger, a map of another size, a buffer that
-// is shorter than `filled`, or a count of refused records above two to the 62nd, which 2^40 buffers of 64 MiB do not reach.
+// is shorter than `filled`, or a count of refused records above two to the 62nd, which a book of at most so many bytes does not reach.
 pub fn take_piece(f: Feed, map: &mut [u8], buffer: &mut [u8], filled: usize) -> Fed
     ensures { λ r. ⌜ (r ≡ fedOf f (now (map .entry)) (now (buffer .entry)) filled) × (now (map .exit) ≡ mapFed f (now (map .entry)) (now (buffer .entry)) filled) × (now (buffer .exit) ≡ bufferFed f (now (map .entry)) (now (buffer .entry)) filled) ⌝ }
 {

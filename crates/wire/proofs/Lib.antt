@@ -1,4 +1,5 @@
 pub mod NumberLaws
 pub mod PlaceLaws
 pub mod CutLaws
+pub mod AppendLaws
 pub mod OneOutcome
