@@ -17,7 +17,7 @@ use Rattle.book.proofs.RunLaws.{refused-below}
 use Rattle.book.proofs.AppendLaws.{refusedBefore, before-all}
 use Rattle.feed.specs.declared.Feed.{Feed}
 use Rattle.feed.specs.declared.Fed.{Fed}
-use Rattle.feed.specs.Feed.{deadRest, moved, unfed, ran, heldAfter, bufferFed, mapFed, fedOf}
+use Rattle.feed.specs.Feed.{mostRefused, deadRest, moved, unfed, ran, heldAfter, bufferFed, mapFed, fedOf}
 
 module _ (f : Feed) (m b : List ℕ) (filled : ℕ) where
   -- what the call came to: its answer, the map and the buffer
@@ -44,7 +44,7 @@ module _ (f : Feed) (m b : List ℕ) (filled : ℕ) where
     shortBuffer = ltb (length b) filled
 
     first-three : (otherMap || unsoundLedger || shortBuffer) ≡ false
-    first-three = or-left (otherMap || unsoundLedger || shortBuffer) (ltb 4611686018427387904 (f .refused)) u
+    first-three = or-left (otherMap || unsoundLedger || shortBuffer) (ltb mostRefused (f .refused)) u
 
     pub map-long : length m ≡ 8192
     map-long = eqb-true (length m) 8192 (not-false (eqb (length m) 8192) (or-left otherMap unsoundLedger (or-left (otherMap || unsoundLedger) shortBuffer first-three)))
@@ -55,8 +55,8 @@ module _ (f : Feed) (m b : List ℕ) (filled : ℕ) where
     pub buffer-long : filled ≤ length b
     buffer-long = ltb-false (length b) filled (or-right (otherMap || unsoundLedger) shortBuffer first-three)
 
-    pub refused-few : f .refused ≤ 4611686018427387904
-    refused-few = ltb-false 4611686018427387904 (f .refused) (or-right (otherMap || unsoundLedger || shortBuffer) (ltb 4611686018427387904 (f .refused)) u)
+    pub refused-few : f .refused ≤ mostRefused
+    refused-few = ltb-false mostRefused (f .refused) (or-right (otherMap || unsoundLedger || shortBuffer) (ltb mostRefused (f .refused)) u)
 
     pub stop-before : stopFrom (take filled b) 0 ≤ filled
     stop-before = omega (arith, stop-within (take filled b), length-take filled b)

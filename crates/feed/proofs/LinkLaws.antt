@@ -24,7 +24,7 @@ use Rattle.book.proofs.RunLaws.{read-through, refused-below}
 use Rattle.book.proofs.SoundLaws.{sound-run}
 use Rattle.feed.specs.declared.Feed.{Feed}
 use Rattle.feed.specs.declared.Fed.{Fed}
-use Rattle.feed.specs.Feed.{Pieces, restOf, deadRest, beginning, fed, fedAll, moved, unfed, stateOf, ran, heldAfter, bufferFed, mapFed, fedOf, finishedOf}
+use Rattle.feed.specs.Feed.{mostRefused, Pieces, restOf, deadRest, beginning, fed, fedAll, moved, unfed, stateOf, ran, heldAfter, bufferFed, mapFed, fedOf, finishedOf}
 use Rattle.feed.proofs.PieceLaws.{pieces-whole, fed-dead, fed-more}
 use Rattle.feed.proofs.FeedLaws.{buffer-long, ledger-sound, map-long, stop-before, feed-over}
 
@@ -144,19 +144,19 @@ module _ (l : Ledger) (m : List ℕ) (ps : List (List ℕ)) (f : Feed) (m₁ b :
   abbrev Outcome : State → Bool → Read
   Outcome st broken = record { answer = 0; ledger = st .ledger; refused = st .refused + cond broken 1 0; broken = broken }
 
-  finish-either : (t : Bool) → eqb (f .held) 0 ≡ not t → f .refused ≤ 4611686018427387904 → finishedOf f ≡ Outcome (stateOf f m₁) t
+  finish-either : (t : Bool) → eqb (f .held) 0 ≡ not t → f .refused ≤ mostRefused → finishedOf f ≡ Outcome (stateOf f m₁) t
   unfolding finishedOf
-  finish-either true e few = rw (le-ltb 4611686018427387904 (f .refused) few, e)
+  finish-either true e few = rw (le-ltb mostRefused (f .refused) few, e)
   finish-either false e few =
-      rw (le-ltb 4611686018427387904 (f .refused) few, e) (λ i. record { answer = 0; ledger = f .ledger; refused = sym (add-zero (f .refused)) i; broken = false })
+      rw (le-ltb mostRefused (f .refused) few, e) (λ i. record { answer = 0; ledger = f .ledger; refused = sym (add-zero (f .refused)) i; broken = false })
 
-  pub finish-whole : f .refused ≤ 4611686018427387904 → unsound l m ≡ false → finishedOf f ≡ readOf l m (joined ps)
+  pub finish-whole : f .refused ≤ mostRefused → unsound l m ≡ false → finishedOf f ≡ readOf l m (joined ps)
   finish-whole few u =
       finish-either (isBroken (joined ps)) held-whole few ∙ ap (λ (st : State). Outcome st (isBroken (joined ps))) state-whole ∙
       sym (read-through l m (joined ps) u .0)
 
   -- a book of at most 2^62 bytes has no more records than that
-  pub count-fits : length (joined ps) ≤ 4611686018427387904 → f .refused ≤ 4611686018427387904
+  pub count-fits : length (joined ps) ≤ mostRefused → f .refused ≤ mostRefused
   count-fits short =
       let same : f .refused ≡ afterBook l m (joined ps) .refused = ap (λ (st : State). st .refused) state-whole in
       omega (arith, refused-below l m (joined ps))

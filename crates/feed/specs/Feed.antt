@@ -44,9 +44,13 @@ unfoldable pub moved : List ℕ → ℕ → ℕ → List ℕ
 moved b start end =
     cond (ltb (length b) end) b (drop start (take end b) ++ drop (end - start) b)
 
+-- the most refused records that a feed goes on from: 2^62
+abbrev pub mostRefused : ℕ
+mostRefused = 4611686018427387904
+
 -- what the code's call is refused for
 abbrev pub unfed : Feed → List ℕ → List ℕ → ℕ → Bool
-unfed f m b filled = not (eqb (length m) 8192) || not (soundLedger (f .ledger)) || ltb (length b) filled || ltb 4611686018427387904 (f .refused)
+unfed f m b filled = not (eqb (length m) 8192) || not (soundLedger (f .ledger)) || ltb (length b) filled || ltb mostRefused (f .refused)
 
 -- the state of a feed, with its map
 abbrev pub stateOf : Feed → List ℕ → State
@@ -82,7 +86,7 @@ fedOf f m b filled =
 -- once the input has ended: what is left over is a broken length, and "counts as one refusal"
 unfoldable pub finishedOf : Feed → Read
 finishedOf f =
-    cond (ltb 4611686018427387904 (f .refused)) (record { answer = 1; ledger = f .ledger; refused = f .refused; broken = false })
+    cond (ltb mostRefused (f .refused)) (record { answer = 1; ledger = f .ledger; refused = f .refused; broken = false })
     (cond (eqb (f .held) 0)
     (record { answer = 0; ledger = f .ledger; refused = f .refused; broken = false })
     (record { answer = 0; ledger = f .ledger; refused = f .refused + 1; broken = true }))

@@ -5,6 +5,9 @@ ghost use Rattle.feed.specs.Feed.{deadRest, moved, fedOf, mapFed, buffer
 use book::Read;
 use ledger::Ledger;
 
+// The most refused records that a feed goes on from: 2^62, so that their count cannot wrap. A book of at most so many bytes does not reach it.
+pub const MOST_REFUSED: u64 = 4611686018427387904;
+
 // So far: the ledger, the refused records, how many bytes at the front of the buffer are still to be read, and whether they begin with a length below 4,
 // after which no record can follow.
 pub struct Feed {
@@ -45,7 +48,7 @@ fn move_to_front(buffer: &mut [u8], start: usize, end: usize)
 }
 
 // Takes the whole records among the first `filled` bytes of the buffer. 1, and nothing changed, for an unsound ledger, a map of another size, a buffer that
-// is shorter than `filled`, or a count of refused records above two to the 62nd, which a book of at most so many bytes does not reach.
+// is shorter than `filled`, or a count of refused records above `MOST_REFUSED`.
 pub fn take_piece(f: Feed, map: &mut [u8], buffer: &mut [u8], filled: usize) -> Fed
     ensures { λ r. ⌜ (r ≡ fedOf f (now (map .entry)) (now (buffer .entry)) filled) × (now (map .exit) ≡ mapFed f (now (map .entry)) (now (buffer .entry)) filled) × (now (buffer .exit) ≡ bufferFed f (now (map .entry)) (now (buffer .entry)) filled) ⌝ }
 {
@@ -53,7 +56,7 @@ pub fn take_piece(f: Feed, map: &mut [u8], buffer: &mut [u8], filled: usize) -> 
     if (map.len() != ledger::MAP)
         | !l.sound()
         | (buffer.len() < filled)
-        | (4611686018427387904 < f.refused)
+        | (MOST_REFUSED < f.refused)
     {
         return Fed { answer: 1, feed: f };
     }
@@ -75,13 +78,13 @@ pub fn take_piece(f: Feed, map: &mut [u8], buffer: &mut [u8], filled: usize) -> 
     }
 }
 
-// The outcome once the input has ended: what is left over is a broken length, and counts as one refusal. 1 for a count of refused records above two to
-// the 62nd.
+// The outcome once the input has ended: what is left over is a broken length, and counts as one refusal. 1 for a count of refused records above
+// `MOST_REFUSED`.
 pub fn finish(f: Feed) -> Read
     ensures { λ r. ⌜ r ≡ finishedOf f ⌝ }
 {
     let l = f.ledger;
-    if 4611686018427387904 < f.refused {
+    if MOST_REFUSED < f.refused {
         return Read {
             answer: 1,
             ledger: l,

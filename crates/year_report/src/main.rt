@@ -5,6 +5,9 @@ use libc::STDERR_FILENO;
 use libc::STDIN_FILENO;
 use libc::STDOUT_FILENO;
 
+// More pieces than any file has: 2^40. Past them the reading has failed.
+const MOST_PIECES: u64 = 1099511627776;
+
 // What was read of the book, and whether a read failed.
 struct Input {
     feed: Feed,
@@ -42,11 +45,11 @@ fn read_behind(buffer: &mut [u8], held: usize) -> Filled {
     }
 }
 
-// Reads the book to its end or to a length below 4, after which nothing can follow. More than 2^40 pieces are a failed read.
+// Reads the book to its end or to a length below 4, after which nothing can follow.
 fn read_book(map: &mut [u8], buffer: &mut [u8]) -> Input {
     let mut feed = start();
     let mut pieces: u64 = 0;
-    while pieces < 1099511627776 {
+    while pieces < MOST_PIECES {
         let held = feed.held;
         if feed.dead {
             return Input {
