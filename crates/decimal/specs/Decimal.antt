@@ -1,6 +1,7 @@
 -- "A decimal call answers two numbers, the whole part and the d digits after it, rounded to nearest, a tie upward" (01, "Indices").
 use Prim.Native.Nat.{ℕ, _+_, _*_, _/_, _%_, _^_, _<_, _≤_}
 use mathlib.Core.Path.{_≡_}
+use mathlib.Core.List.{List, [], _∷_}
 use mathlib.Core.Bool.{Bool, cond}
 use lib.Dec.{ltb, eqb}
 use Rattle.ratio.specs.declared.Fraction.{Fraction}
@@ -32,6 +33,11 @@ decimalOf f k = splitAt (rounded (f .top) (f .bottom) k) (10 ^ k)
 -- 17 comes before 18
 unfoldable pub shownOf : Fraction → ℕ → Shown
 shownOf f k = cond (eqb (f .bottom) 0) (Refused 17) (cond (ltb 6 k) (Refused 18) (Is (decimalOf f k)))
+
+-- the answer in 01's numbers: 0, the whole part and the digits; or the refusal
+abbrev pub decimally : Shown → List ℕ
+decimally (Is d) = 0 ∷ d .whole ∷ d .digits ∷ []
+decimally (Refused n) = n ∷ []
 
 -- what the inner functions of the long division promise
 pub record Tenfold (before d : ℕ) (r : Digit) : Type 0 where

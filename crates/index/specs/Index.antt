@@ -1,5 +1,6 @@
 -- "SAIFI = customers / N; SAIDI = half minutes / (2N); CAIDI = half minutes / (2 x customers)" (01, "Indices"; 003, 4.3.1 and 4.3.2).
 use Prim.Native.Nat.{ℕ, _*_}
+use mathlib.Core.List.{List, [], _∷_}
 use mathlib.Core.Bool.{not, cond}
 use lib.Dec.{eqb}
 use Rattle.ratio.specs.declared.Fraction.{Fraction}
@@ -55,6 +56,11 @@ indexOf l index level set =
     (cond (not (l .sheet .there)) (Refused 5)
     (cond (eqb (nobody l index level set) 0) (Refused 17)
     (Is (lowestOf (formulaOf l index level set .top) (formulaOf l index level set .bottom)))))
+
+-- the answer in 01's numbers: 0, top and bottom; or the refusal
+abbrev pub exactly : Answer → List ℕ
+exactly (Is f) = 0 ∷ f .top ∷ f .bottom ∷ []
+exactly (Refused n) = n ∷ []
 
 -- a decimal of an answer; the refusals of the index come first
 abbrev pub shownAnswer : Answer → ℕ → Shown

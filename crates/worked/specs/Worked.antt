@@ -6,9 +6,7 @@ use Rattle.base.specs.Lists.{All}
 use Rattle.wire.specs.Cut.{cutIn, recordsOf}
 use Rattle.ratio.specs.declared.Fraction.{Fraction}
 use Rattle.ratio.specs.Lowest.{euclid, gcdOf, lowestOf}
-use Rattle.decimal.specs.declared.Shown.{Shown}
-use Rattle.decimal.specs.declared.Shown.the-variants as shown
-use Rattle.decimal.specs.Decimal.{rounded, decimalOf, shownOf}
+use Rattle.decimal.specs.Decimal.{rounded, decimalOf, shownOf, decimally}
 use Rattle.codes.specs.declared.Set.{Set}
 use Rattle.codes.specs.declared.Set.the-variants as set
 use Rattle.codes.specs.Codes.{rowOf, levelOf, causes, causeListed, rowHeld}
@@ -28,10 +26,8 @@ use Rattle.index.specs.declared.Level.{Level}
 use Rattle.index.specs.declared.Level.the-variants as level
 use Rattle.index.specs.declared.Index.{Index}
 use Rattle.index.specs.declared.Index.the-variants as index
-use Rattle.index.specs.declared.Answer.{Answer}
-use Rattle.index.specs.declared.Answer.the-variants as answer
 use Rattle.index.specs.Sums.{levelSum, totalOf}
-use Rattle.index.specs.Index.{indexOf, shownIndex}
+use Rattle.index.specs.Index.{indexOf, exactly}
 use Rattle.worked.specs.Bytes.{three, sheet, codes, simple, times, stepped, step}
 
 -- a case: its number, what is computed, and what 01 says comes out
@@ -39,16 +35,6 @@ pub record Case : Type 0 where
   pub number : ℕ
   pub computed : List ℕ
   pub comes-out : List ℕ
-
--- an exact answer as numbers: 0, top and bottom; or the refusal
-abbrev pub exactly : Answer → List ℕ
-exactly (answer.Is f) = 0 ∷ f .top ∷ f .bottom ∷ []
-exactly (answer.Refused n) = n ∷ []
-
--- a decimal as numbers: 0, whole part and digits; or the refusal
-abbrev pub decimally : Shown → List ℕ
-decimally (shown.Is d) = 0 ∷ d .whole ∷ d .digits ∷ []
-decimally (shown.Refused n) = n ∷ []
 
 -- 003, 10.2: N = 1000, 10, 1. Fault 1 on VVN, 4 minutes, all interrupted; fault 2 on VN, 25 minutes, 1000 and 10; fault 3 on NN, 50 minutes, 1000
 abbrev pub fault : ℕ → ℕ → ℕ → List ℕ → List ℕ → List ℕ
