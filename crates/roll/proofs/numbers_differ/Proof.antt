@@ -1,0 +1,59 @@
+-- At each turn the entries seen differ from all that follow them, and what is left of the table differs by itself. Assumes nothing.
+use Prim.Native.Nat.{_≤_, _-_, _+_}
+use mathlib.Core.Path.{_≡_, _∙_, sym}
+use mathlib.Core.Bool.{_&&_, _||_, not}
+use lib.ListN.{length, getD, drop}
+use lib.Dec.{eqb}
+use borrow.Author.Needs.{needs}
+use Rattle.roll.specs.Desk.{differ}
+use Rattle.roll.proofs.TableLaws.{differ-more, differ-ends}
+use Rattle.roll.proofs.numbers_differ.Statement.{statement}
+use Rattle.roll.proofs.numbers_differ.Tie as tie
+
+abbrev Inv-loop : tie.InvT-loop
+Inv-loop table ok₀ i₀ ok i = (i ≤ 32) × (differ table ≡ (ok && differ (drop i table))) × (length table ≡ 32)
+
+abbrev μ-loop : tie.MeasureT-loop
+μ-loop table ok₀ i₀ ok i = 32 - i
+
+loop-holds : tie.Need-loop-holds Inv-loop μ-loop
+loop-holds c = search needs
+
+mul-number : tie.Need-mul-number Inv-loop μ-loop
+mul-number c = search needs
+
+array-read-number : tie.Need-array-read-number Inv-loop μ-loop
+array-read-number c = search needs
+
+add-listed-from : tie.Need-add-listed-from Inv-loop μ-loop
+add-listed-from c = search needs
+
+listed-from-requires : tie.Need-listed-from-requires Inv-loop μ-loop
+listed-from-requires c κs = search needs
+
+add-i : tie.Need-add-i Inv-loop μ-loop
+add-i c = search needs
+
+loop-less : tie.Need-loop-less Inv-loop μ-loop
+loop-less c = search needs
+
+loop-again : tie.Need-loop-again Inv-loop μ-loop
+loop-again c =
+    let t = c .before .before .before .args .t1 in
+    let l = c .before .before .loop in (
+      search needs,
+      l .inv .1 ∙
+          differ-more 0 t (l .i) (search needs) (l .ok) ∙
+          (λ j. l .ok && (eqb (getD t (l .i) 0) 0 || not (sym (c .listed-from .ensures) j)) && differ (drop (l .i + 1) t)),
+      search needs,
+    )
+
+returns : tie.Need-returns Inv-loop μ-loop
+returns c =
+    let l = c .before .loop in
+    sym (l .inv .1 ∙ differ-ends (c .before .before .args .t1) (l .i) (l .ok) (search needs))
+
+pub numbers-differ-spec : {M : Type 1} → statement M
+numbers-differ-spec =
+    tie.close
+    (tie.spec Inv-loop μ-loop loop-holds mul-number array-read-number add-listed-from listed-from-requires add-i loop-less loop-again returns)

@@ -1,0 +1,53 @@
+-- The search has passed as many entries as its index says, none of which has the number. Assumes nothing.
+use Prim.Native.Nat.{_≤_, _-_}
+use mathlib.Core.Path.{_≡_, sym, _∙_}
+use lib.ListN.{length}
+use native.Mathlib.Omega.{arith}
+use borrow.Author.Needs.{needs}
+use Rattle.roll.proofs.TableLaws.{Come, begins, passes-on, found, ended}
+use Rattle.roll.proofs.place_in.Statement.{statement}
+use Rattle.roll.proofs.place_in.Tie as tie
+
+abbrev Inv-loop : tie.InvT-loop
+Inv-loop number table i₀ i = Come number table i × (length table ≡ 32)
+
+abbrev μ-loop : tie.MeasureT-loop
+μ-loop number table i₀ i = 32 - i
+
+loop-holds : tie.Need-loop-holds Inv-loop μ-loop
+loop-holds c = (begins (c .args .number) (c .args .t1), search needs)
+
+mul-if1 : tie.Need-mul-if1 Inv-loop μ-loop
+mul-if1 c = search needs
+
+array-read-if1 : tie.Need-array-read-if1 Inv-loop μ-loop
+array-read-if1 c = search needs
+
+returns : tie.Need-returns Inv-loop μ-loop
+returns c =
+    let a = c .before .before .before .args in
+    let l = c .before .before .loop in
+    found (a .number) (a .t1) (l .i) (search needs) (l .inv .0) (c .if1 .taken)
+
+add-i : tie.Need-add-i Inv-loop μ-loop
+add-i c = search needs
+
+loop-less : tie.Need-loop-less Inv-loop μ-loop
+loop-less c = search needs
+
+loop-again : tie.Need-loop-again Inv-loop μ-loop
+loop-again c =
+    let a = c .before .before .before .args in
+    let l = c .before .before .loop in
+    (passes-on (a .number) (a .t1) (l .i) (search needs) (l .inv .0) (c .if1 .left), search needs)
+
+returns-2 : tie.Need-returns-2 Inv-loop μ-loop
+returns-2 c =
+    let a = c .before .before .args in
+    let l = c .before .loop in
+    sym (l .inv .1) ∙ ended (a .number) (a .t1) (l .i) (l .inv .0) (search needs)
+
+pub place-in-spec : {M : Type 1} → statement M
+place-in-spec =
+    tie.close
+    (tie.spec Inv-loop μ-loop loop-holds mul-if1 array-read-if1 returns add-i loop-less loop-again returns-2)

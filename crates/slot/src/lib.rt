@@ -1,0 +1,148 @@
+// One slot of the desk: an open outage with what its steps have come to, or a free slot, which holds zeros only.
+ghost use mathlib.Core.Path.{_≡_};
+ghost use mathlib.Core.Bool.{true};
+ghost use Prim.Native.Nat.{_-_, _≤_};
+ghost use Rattle.annex.specs.Figures.{Room};
+ghost use Rattle.slot.specs.Slot.{freeSlot, openedBy, steppedBy};
+ghost use Rattle.slot.specs.Sound.{noCustomers, noHalves, isFree, levelWithin, openSound, slotSound};
+use annex::Customers;
+use annex::Figures;
+use annex::HalfMinutes;
+use annex::Step;
+use fields::Head;
+
+// What the outage began with, the last step's time (T0 before the first), the steps taken, and the figures that they fold to.
+pub struct Slot {
+    pub head: Head,
+    pub last: u32,
+    pub steps: u8,
+    pub figures: Figures,
+}
+
+// The minutes from one time to another, 0 where the second is earlier.
+fn minutes_between(start: u32, end: u32) -> u32
+    ensures { λ r. ⌜ r ≡ end - start ⌝ }
+{
+    if end < start {
+        return 0;
+    }
+    end - start
+}
+
+// Whether all customers, or all half minutes, are zero.
+fn no_customers(f: Figures) -> bool
+    ensures { λ r. ⌜ r ≡ noCustomers f ⌝ }
+{
+    let c = f.customers;
+    (c[0].0 == 0) & (c[1].0 == 0) & (c[2].0 == 0)
+}
+
+fn no_halves(f: Figures) -> bool
+    ensures { λ r. ⌜ r ≡ noHalves f ⌝ }
+{
+    let h = f.halves;
+    (h[0].0 == 0) & (h[1].0 == 0) & (h[2].0 == 0)
+}
+
+// Whether a level's largest count and half minutes are within what so many minutes allow.
+fn level_within(customers: Customers, halves: HalfMinutes, minutes: u32) -> bool
+    ensures { λ r. ⌜ r ≡ levelWithin (customers .0) (halves .0) minutes ⌝ }
+{
+    if 10000000 < customers.0 {
+        return false;
+    }
+    halves.0 <= 2 * customers.0 * minutes as u64
+}
+
+impl Slot {
+    // Zeros only.
+    pub fn free() -> Slot
+        ensures { λ r. ⌜ r ≡ freeSlot ⌝ }
+    {
+        Slot {
+            head: Head {
+                number: 0,
+                typ: 0,
+                voltage: 0,
+                cause: 0,
+                t0: 0,
+            },
+            last: 0,
+            steps: 0,
+            figures: Figures::none(),
+        }
+    }
+
+    // An outage that begins, with no step taken.
+    pub fn opened(head: Head) -> Slot
+        ensures { λ r. ⌜ r ≡ openedBy head ⌝ }
+    {
+        Slot {
+            head,
+            last: head.t0,
+            steps: 0,
+            figures: Figures::none(),
+        }
+    }
+
+    // The outage with one step more.
+    pub fn stepped(self, step: Step) -> Slot
+        requires { ⌜ Room (self .figures) × (self .steps ≤ 64) × (self .last ≤ step .time) × (step .time ≤ 600000) ⌝ }
+        ensures { λ r. ⌜ r ≡ steppedBy self step ⌝ }
+    {
+        let f = self.figures;
+        let head = self.head;
+        let counts = step.counts;
+        Slot {
+            head,
+            last: step.time,
+            steps: self.steps + 1,
+            figures: f.with_step(counts, step.time - self.last),
+        }
+    }
+
+    // Whether the slot holds zeros only.
+    pub fn is_free(self) -> bool
+        ensures { λ r. ⌜ r ≡ isFree self ⌝ }
+    {
+        let head = self.head;
+        let f = self.figures;
+        (head.number == 0)
+            & (head.typ == 0)
+            & (head.voltage == 0)
+            & (head.cause == 0)
+            & (head.t0 == 0)
+            & (self.last == 0)
+            & (self.steps == 0)
+            & no_customers(f)
+            & no_halves(f)
+    }
+
+    // Whether the slot is sound as an open one.
+    fn open_sound(self) -> bool
+        ensures { λ r. ⌜ r ≡ openSound self ⌝ }
+    {
+        let head = self.head;
+        let f = self.figures;
+        let c = f.customers;
+        let h = f.halves;
+        let minutes = minutes_between(head.t0, self.last);
+        head.listed()
+            & (head.t0 < 527040)
+            & (head.t0 <= self.last)
+            & (self.last <= 600000)
+            & (self.steps <= 64)
+            & level_within(c[0], h[0], minutes)
+            & level_within(c[1], h[1], minutes)
+            & level_within(c[2], h[2], minutes)
+            & !fields::figures_above(f, codes::level_of(head.voltage))
+            & ((0 < self.steps) | ((self.last == head.t0) & no_customers(f)))
+    }
+
+    // Whether the slot is sound.
+    pub fn sound(self) -> bool
+        ensures { λ r. ⌜ r ≡ slotSound self ⌝ }
+    {
+        self.is_free() | self.open_sound()
+    }
+}
