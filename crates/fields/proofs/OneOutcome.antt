@@ -29,12 +29,6 @@ use Rattle.fields.proofs.is_simple_late.Kinds as is-simple-late-kinds
 use Rattle.fields.proofs.is_simple_late.Reads as is-simple-late
 use Rattle.fields.proofs.is_none_then_some.Kinds as is-none-then-some-kinds
 use Rattle.fields.proofs.is_none_then_some.Reads as is-none-then-some
-use Rattle.fields.proofs.Walk.begin.Kinds as begin-kinds
-use Rattle.fields.proofs.Walk.begin.Reads as begin
-use Rattle.fields.proofs.Walk.with.Kinds as with-kinds
-use Rattle.fields.proofs.Walk.with.Reads as with
-use Rattle.fields.proofs.walk_of.Kinds as walk-of-kinds
-use Rattle.fields.proofs.walk_of.Reads as walk-of
 
 pub sheet-of-one : OneOutcome sheet-of-kinds.ps sheet-of-kinds.r sheet-of.Post
 sheet-of-one κs a x y v w p q = (alike p q, refl)
@@ -77,12 +71,3 @@ is-simple-late-one κs a x y v w p q = (alike p q, refl)
 
 pub is-none-then-some-one : OneOutcome is-none-then-some-kinds.ps is-none-then-some-kinds.r is-none-then-some.Post
 is-none-then-some-one κs a x y v w p q = (alike p q, refl)
-
-pub begin-one : OneOutcome begin-kinds.ps begin-kinds.r begin.Post
-begin-one κs a x y v w p q = (alike p q, refl)
-
-pub with-one : OneOutcome with-kinds.ps with-kinds.r with.Post
-with-one κs a x y v w p q = (alike p q, refl)
-
-pub walk-of-one : OneOutcome walk-of-kinds.ps walk-of-kinds.r walk-of.Post
-walk-of-one κs a x y v w p q = (alike p q, refl)

@@ -7,7 +7,6 @@ ghost use Rattle.record.specs.Verdict.{refusedWith, sheetVerdict, eventV
 use annex::Figures;
 use fields::Head;
 use fields::Sheet;
-use fields::Walk;
 
 // What judging a record comes to: the answer number, and what the record does to a ledger: the sheet after it, the number that it marks (0 for
 // none), the events and short events that it adds, and its figures with their row. A refused record adds nothing.
@@ -168,7 +167,7 @@ fn judge_stepped(bytes: &[u8], sheet: Sheet, map: &[u8], events: u16) -> Verdict
     let head = fields::head_of(bytes);
     let n = sheet.totals;
     let level = codes::level_of(head.voltage);
-    let w = fields::walk_of(bytes, steps, head.t0);
+    let w = walk::walk_of(bytes, steps, head.t0);
     let f = w.figures;
     let rest = first_of_four(
         fields::figures_above(f, level),

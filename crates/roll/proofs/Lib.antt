@@ -1,2 +1,4 @@
 pub mod TableLaws
+pub mod SearchLaws
+pub mod RollLaws
 pub mod OneOutcome

@@ -13,11 +13,11 @@ use Rattle.codes.specs.Codes.{levelOf}
 use Rattle.annex.specs.Times.{minutesIn}
 use Rattle.marks.specs.Marks.{marked}
 use Rattle.fields.specs.declared.Head.{Head}
-use Rattle.fields.specs.declared.Walk.{Walk}
+use Rattle.walk.specs.declared.Walk.{Walk}
 use Rattle.fields.specs.Fields.{headIn, stepsFrom, stepsIn}
 use Rattle.fields.specs.Tests.{headListed, anyLate, exceedingFigures, figuresAbove}
-use Rattle.fields.specs.Walk.{begun, walked}
-use Rattle.fields.proofs.WalkLaws.{walked-late, walked-last, walked-figures, exceed-by-largest, above-by-largest}
+use Rattle.walk.specs.Walk.{begun, walked}
+use Rattle.walk.proofs.WalkLaws.{walked-late, walked-last, walked-figures, exceed-by-largest, above-by-largest}
 use Rattle.record.specs.Rules.{firstOf, lengthWrong, countTooLarge, countTooHigh, alreadyMarked, ledgerFull}
 use Rattle.record.specs.Verdict.{refusedWith, eventVerdict, answerAt}
 use Rattle.record.proofs.JudgeLaws.{refused-by, at-refused, at-accepted, stepped-answer, stepped-timely, ten-hides}

@@ -18,11 +18,11 @@ use Rattle.annex.proofs.FoldLaws.{stepped-customers}
 use Rattle.annex.specs.Stepped.{folded, lastTime, steppedFigures}
 use Rattle.annex.specs.Bounds.{Few, Timely}
 use Rattle.annex.proofs.Bounds.{timely-nothing, timely-step}
-use Rattle.fields.specs.declared.Walk.{Walk}
+use Rattle.walk.specs.declared.Walk.{Walk}
 use Rattle.fields.specs.Fields.{stepAt, stepsFrom}
 use Rattle.fields.specs.Tests.{lateStep, anyLate, exceeding, aboveLevel, exceedingFigures, figuresAbove}
 use Rattle.fields.proofs.TestLaws.{in-time}
-use Rattle.fields.specs.Walk.{begun, walkedStep, walked}
+use Rattle.walk.specs.Walk.{begun, walkedStep, walked}
 
 pub late-from : (w : Walk) (ss : List Step) → walked w ss .late ≡ (w .late || anyLate (w .last) ss)
 unfolding walkedStep

@@ -13,11 +13,11 @@ use denote.Plain.{UInt}
 use denote.Shadow.{shadow}
 use Rattle.annex.specs.Bounds.{Few, Timely}
 use Rattle.annex.proofs.Bounds.{timely-nothing}
 use Rattle.fields.specs.Fields.{stepAt, stepsFrom}
-use Rattle.fields.specs.Walk.{begun, walkedStep, walked}
-use Rattle.fields.proofs.WalkLaws.{timely-kept, one-taken}
-use Rattle.fields.proofs.walk_of.Statement.{statement}
-use Rattle.fields.proofs.walk_of.Tie as tie
+use Rattle.walk.specs.Walk.{begun, walkedStep, walked}
+use Rattle.walk.proofs.WalkLaws.{timely-kept, one-taken}
+use Rattle.walk.proofs.walk_of.Statement.{statement}
+use Rattle.walk.proofs.walk_of.Tie as tie
 
 -- each element of an array of 32-bit numbers is below 2 ^ 32
 words-few : (n : List ℕ) (us : List Val) → shadow (each ℕ (UInt w32 .own) (map (λ (v : ℕ). v) n) us) → Few 4294967295 n

@@ -2,8 +2,8 @@
 -- Assumes nothing.
 use borrow.Author.Needs.{needs}
 use mathlib.Core.Bool.{false}
-use Rattle.fields.proofs.Walk.begin.Statement.{statement}
-use Rattle.fields.proofs.Walk.begin.Tie as tie
+use Rattle.walk.proofs.Walk.begin.Statement.{statement}
+use Rattle.walk.proofs.Walk.begin.Tie as tie
 
 none-requires : tie.Need-none-requires
 none-requires c κs = search needs

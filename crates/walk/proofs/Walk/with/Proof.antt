@@ -5,13 +5,13 @@ use mathlib.Core.Bool.{true, false, _||_}
 use native.Mathlib.Omega.{arith}
 use Rattle.base.proofs.TestLaws.{or-right}
 use Rattle.annex.proofs.Bounds.{timely-room}
 use Rattle.fields.specs.Tests.{lateStep}
-use Rattle.fields.specs.Walk.{walkedStep}
+use Rattle.walk.specs.Walk.{walkedStep}
 use Rattle.fields.proofs.TestLaws.{in-time}
-use Rattle.fields.proofs.WalkLaws.{step-late, step-timed}
+use Rattle.walk.proofs.WalkLaws.{step-late, step-timed}
 use borrow.Author.Needs.{needs}
-use Rattle.fields.proofs.Walk.with.Statement.{statement}
-use Rattle.fields.proofs.Walk.with.Tie as tie
+use Rattle.walk.proofs.Walk.with.Statement.{statement}
+use Rattle.walk.proofs.Walk.with.Tie as tie
 
 is-late-requires : tie.Need-is-late-requires
 is-late-requires c κs = search needs
