@@ -1,0 +1,6 @@
+pub mod PlanLaws
+pub mod ServeLaws
+pub mod MessageLaws
+pub mod ExactlyThen
+pub mod OnlyNamed
+pub mod OneOutcome
