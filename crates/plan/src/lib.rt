@@ -187,10 +187,12 @@ fn plan_close(
     if answer != 0 {
         return refuse(ledger, slots, answer);
     }
+    let taken = ledger.add(record::accept(sheet, head, slot.last, figures));
+    let freed = Slot::free();
     Plan {
-        taken: ledger.add(record::accept(sheet, head, slot.last, figures)),
+        taken,
         at,
-        slot: Slot::free(),
+        slot: freed,
         number: 0,
     }
 }

@@ -47,12 +47,12 @@ fn numbers_differ(table: [u16; 32]) -> bool
 fn place_in(table: [u16; 32], number: u16) -> usize
     ensures { λ r. ⌜ r ≡ place number table ⌝ }
 {
-    let mut i: usize = 0;
-    while i < 32 {
-        if number == table[i] {
-            return i;
+    let mut passed: usize = 0;
+    while passed < 32 {
+        if number == table[passed] {
+            return passed;
         }
-        i += 1;
+        passed += 1;
     }
     32
 }

@@ -9,10 +9,10 @@ use Rattle.roll.proofs.place_in.Statement.{statement}
 use Rattle.roll.proofs.place_in.Tie as tie
 
 abbrev Inv-loop : tie.InvT-loop
-Inv-loop number table i₀ i = Come number table i × (length table ≡ 32)
+Inv-loop number table passed₀ passed = Come number table passed × (length table ≡ 32)
 
 abbrev μ-loop : tie.MeasureT-loop
-μ-loop number table i₀ i = 32 - i
+μ-loop number table passed₀ passed = 32 - passed
 
 loop-holds : tie.Need-loop-holds Inv-loop μ-loop
 loop-holds c = (begins (c .args .number) (c .args .t1), search needs)
@@ -27,10 +27,10 @@ returns : tie.Need-returns Inv-loop μ-loop
 returns c =
     let a = c .before .before .before .args in
     let l = c .before .before .loop in
-    found (a .number) (a .t1) (l .i) (search needs) (l .inv .0) (c .if1 .taken)
+    found (a .number) (a .t1) (l .passed) (search needs) (l .inv .0) (c .if1 .taken)
 
-add-i : tie.Need-add-i Inv-loop μ-loop
-add-i c = search needs
+add-passed : tie.Need-add-passed Inv-loop μ-loop
+add-passed c = search needs
 
 loop-less : tie.Need-loop-less Inv-loop μ-loop
 loop-less c = search needs
@@ -39,15 +39,15 @@ loop-again : tie.Need-loop-again Inv-loop μ-loop
 loop-again c =
     let a = c .before .before .before .args in
     let l = c .before .before .loop in
-    (passes-on (a .number) (a .t1) (l .i) (search needs) (l .inv .0) (c .if1 .left), search needs)
+    (passes-on (a .number) (a .t1) (l .passed) (search needs) (l .inv .0) (c .if1 .left), search needs)
 
 returns-2 : tie.Need-returns-2 Inv-loop μ-loop
 returns-2 c =
     let a = c .before .before .args in
     let l = c .before .loop in
-    sym (l .inv .1) ∙ ended (a .number) (a .t1) (l .i) (l .inv .0) (search needs)
+    sym (l .inv .1) ∙ ended (a .number) (a .t1) (l .passed) (l .inv .0) (search needs)
 
 pub place-in-spec : {M : Type 1} → statement M
 place-in-spec =
     tie.close
-    (tie.spec Inv-loop μ-loop loop-holds mul-if1 array-read-if1 returns add-i loop-less loop-again returns-2)
+    (tie.spec Inv-loop μ-loop loop-holds mul-if1 array-read-if1 returns add-passed loop-less loop-again returns-2)

@@ -1,0 +1,16 @@
+pub mod EncodeLaws
+pub mod StoryLaws
+pub mod OpenMarks
+pub mod EntryLaws
+pub mod HoldLaws
+pub mod Kept
+pub mod StepByStep
+pub mod OneDay
+pub mod SlotLaws
+pub mod AfterLaws
+pub mod SoundDay
+pub mod MarkedDay
+pub mod OneOpen
+pub mod LateReply
+pub mod FoldedDay
+pub mod MarkingNeeded

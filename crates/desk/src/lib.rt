@@ -1,0 +1,62 @@
+// The desk: a lent table of 32 slots, and the one entry for open, step and close. The rules stand in `plan`; here a slot is taken out by value
+// and written back, and no function knows a rule.
+ghost use mathlib.Core.Path.{_≡_};
+ghost use lib.ListN.{length, getD, set};
+ghost use Rattle.roll.specs.Roll.{rolled};
+ghost use Rattle.plan.specs.Rules.{lookAt};
+ghost use Rattle.plan.specs.Plan.{planOf};
+ghost use Rattle.plan.specs.Serve.{servedOf, mapServed, deskServed};
+use ledger::Ledger;
+use ledger::Taken;
+use plan::Plan;
+use roll::Roll;
+use slot::Slot;
+
+// The slot at an index, or another where the desk has none there.
+fn slot_at(desk: &[Slot], i: usize, other: Slot) -> Slot
+    ensures { λ r. ⌜ r ≡ getD (now (desk .entry)) i other ⌝ }
+{
+    if i < desk.len() { desk[i] } else { other }
+}
+
+// A slot is put at an index; past the end nothing is done.
+fn slot_put(desk: &mut [Slot], i: usize, slot: Slot)
+    ensures { λ _. ⌜ now (desk .exit) ≡ set (now (desk .entry)) i slot ⌝ }
+{
+    if i < desk.len() {
+        desk[i] = slot;
+    }
+}
+
+// The roll of all slots, from the first.
+fn roll_of(desk: &[Slot], start: Roll) -> Roll
+    ensures { λ r. ⌜ r ≡ rolled start 0 (now (desk .entry)) ⌝ }
+{
+    let mut roll = start;
+    let mut i: usize = 0;
+    while i < desk.len() {
+        roll = roll.with(i, desk[i]);
+        i += 1;
+    }
+    roll
+}
+
+// What a message is to do to a desk, which is only read.
+fn planned(desk: &[Slot], ledger: Ledger, map: &[u8], bytes: &[u8]) -> Plan
+    ensures { λ r. ⌜ r ≡ planOf (lookAt (now (desk .entry)) (now (bytes .entry))) (length (now (desk .entry))) ledger (now (map .entry)) (now (bytes .entry)) ⌝ }
+{
+    let roll = roll_of(desk, Roll::begin());
+    let slot = slot_at(desk, roll.named(bytes), Slot::free());
+    plan::decide(desk.len(), roll, slot, ledger, map, bytes)
+}
+
+// One message: the answer number and the next ledger. An accepted open marks its number and takes the free slot of lowest index; an accepted step
+// changes the slot that holds its number; an accepted close adds its event to the ledger and frees its slot.
+pub fn serve(ledger: Ledger, map: &mut [u8], desk: &mut [Slot], bytes: &[u8]) -> Taken
+    ensures { λ r. ⌜ (r ≡ servedOf ledger (now (map .entry)) (now (desk .entry)) (now (bytes .entry))) × (now (map .exit) ≡ mapServed ledger (now (map .entry)) (now (desk .entry)) (now (bytes .entry))) × (now (desk .exit) ≡ deskServed ledger (now (map .entry)) (now (desk .entry)) (now (bytes .entry))) ⌝ }
+{
+    let p = planned(desk, ledger, map, bytes);
+    slot_put(desk, p.at, p.slot);
+    marks::mark(map, p.number);
+    plan::taken_by(p)
+}

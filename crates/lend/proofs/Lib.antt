@@ -1,0 +1,4 @@
+pub mod ArrayLend
+pub mod LendLaws
+pub mod OneOutcome
+pub mod Rows
