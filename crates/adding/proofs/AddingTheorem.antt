@@ -1,0 +1,48 @@
+-- The theorem *levels and event types add up to the network* (01's mission; 003, 4.3.2) of an accepted book, gathered from the laws of its totals, its
+-- events and its indices. Assumes nothing.
+use Prim.Native.Nat.{ℕ}
+use mathlib.Core.Path.{_≡_, refl, _∙_}
+use mathlib.Core.List.{List}
+use mathlib.Core.Bool.{true}
+use Rattle.codes.specs.declared.Set.{Set}
+use Rattle.codes.specs.declared.Set.the-variants.{All, Std, Unnamed}
+use Rattle.codes.specs.Codes.{rowOf}
+use Rattle.book.specs.Accepted.{Accepted}
+use Rattle.book.specs.Theorem.{bookLedger}
+use Rattle.index.specs.declared.Level.{Level}
+use Rattle.adding.specs.Parts.{typesIn, rest, eachOnce}
+use Rattle.adding.specs.Adding.{TotalsAre, AddsUp}
+use Rattle.adding.proofs.BookLaws.{book-sound}
+use Rattle.adding.proofs.EventLaws.{events-add}
+use Rattle.adding.proofs.TotalLaws.{levels-add, types-add, rest-adds}
+use Rattle.adding.proofs.IndexLaws.{saifi-adds, saidi-adds}
+
+-- a set's types are different types of 9.2, and so are 13 to 16
+pub set-once : (set : Set) → eachOnce (typesIn set) ≡ true
+unfolding rowOf
+set-once All = refl
+set-once Std = refl
+set-once Unnamed = refl
+
+pub rest-once : eachOnce rest ≡ true
+unfolding rowOf
+rest-once = refl
+
+module _ (book : List ℕ) (accepted : Accepted book) where
+  totals-are : (level : Level) (set : Set) → TotalsAre book level set
+  totals-are level set =
+      let by-types = types-add (bookLedger book) level set in
+      let by-events = events-add book accepted level (typesIn set) (set-once set) in
+      record { customers = by-types .customers ∙ by-events .customers; halves = by-types .halves ∙ by-events .halves }
+
+  pub accepted-book-adds-up : AddsUp book
+  accepted-book-adds-up =
+      record {
+        levels = levels-add (bookLedger book);
+        types = types-add (bookLedger book);
+        rests = rest-adds (bookLedger book);
+        events = events-add book accepted;
+        totals = totals-are;
+        saifi = saifi-adds (bookLedger book) (book-sound book);
+        saidi = saidi-adds (bookLedger book) (book-sound book);
+      }

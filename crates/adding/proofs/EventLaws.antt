@@ -1,0 +1,76 @@
+-- The cells of some types are 003's sums over the book's events of these types: each cell is so by *accepted events add exactly the annex*, and types
+-- and levels are summed in either order. Assumes nothing.
+use Prim.Native.Nat.{ℕ, _+_, _<_}
+use mathlib.Core.Path.{_≡_, sym, ap, _∙_}
+use mathlib.Core.List.{List, [], _∷_, map}
+use mathlib.Core.Bool.{true}
+use native.Mathlib.Omega.{arith}
+use Rattle.base.specs.Lists.{sum}
+use Rattle.codes.specs.Codes.{rows, rowOf}
+use Rattle.annex.specs.Annex.{njh, njhtjh2}
+use Rattle.ledger.specs.Ledger.{cellOf}
+use Rattle.book.specs.Accepted.{Accepted, eventIn}
+use Rattle.book.specs.Theorem.{eventsOf, bookLedger, IsSum}
+use Rattle.book.proofs.AnnexTheorem.{accepted-book-adds}
+use Rattle.index.specs.declared.Level.{Level}
+use Rattle.adding.specs.Parts.{placeOf, eachOnce, counted}
+use Rattle.adding.specs.Adding.{EventsAdd}
+use Rattle.adding.proofs.SumLaws.{sum-across, across-alike}
+use Rattle.adding.proofs.TypeLaws.{counted-by-row, counted-one-more, counted-none, first-is-type, first-is-new, others-once}
+
+-- a figure of each type that is the sum of a value over its counted events: of different types together it is the sum over the events of all of them
+types-count :
+    (figure : ℕ → ℕ) (v : List ℕ → ℕ) (events : List (List ℕ)) →
+    ((typ : ℕ) → rowOf typ < rows → figure typ ≡ sum (map v (counted (typ ∷ []) events))) →
+    (ts : List ℕ) →
+    eachOnce ts ≡ true →
+    sum (map figure ts) ≡ sum (map v (counted ts events))
+types-count figure v events each [] once = sym (ap (λ (es : List (List ℕ)). sum (map v es)) (counted-none events))
+types-count figure v events each (typ ∷ ts) once =
+    (λ i. each typ (first-is-type typ ts once) i + types-count figure v events each ts (others-once typ ts once) i) ∙
+    sym (counted-one-more typ ts (first-is-new typ ts once) v events)
+
+module _ (book : List ℕ) (accepted : Accepted book) where
+  sums : IsSum book
+  sums = accepted-book-adds book accepted
+
+  -- of a level h below 3
+  module _ (h : ℕ) (b : h < 3) where
+    customers-count :
+        (ts : List ℕ) →
+        eachOnce ts ≡ true →
+        sum (map (λ (typ : ℕ). cellOf (bookLedger book) (rowOf typ) h .customers .0) ts) ≡
+        sum (map (λ (s : List ℕ). njh h (eventIn s)) (counted ts (eventsOf book)))
+    customers-count =
+        types-count (λ (typ : ℕ). cellOf (bookLedger book) (rowOf typ) h .customers .0) (λ (s : List ℕ). njh h (eventIn s)) (eventsOf book)
+        (λ typ r.
+        sums .customers (rowOf typ) h r b ∙
+        sym (ap (λ (es : List (List ℕ)). sum (map (λ (s : List ℕ). njh h (eventIn s)) es)) (counted-by-row typ r (eventsOf book))))
+
+    halves-count :
+        (ts : List ℕ) →
+        eachOnce ts ≡ true →
+        sum (map (λ (typ : ℕ). cellOf (bookLedger book) (rowOf typ) h .halves .0) ts) ≡
+        sum (map (λ (s : List ℕ). njhtjh2 h (eventIn s)) (counted ts (eventsOf book)))
+    halves-count =
+        types-count (λ (typ : ℕ). cellOf (bookLedger book) (rowOf typ) h .halves .0) (λ (s : List ℕ). njhtjh2 h (eventIn s)) (eventsOf book)
+        (λ typ r.
+        sums .halves (rowOf typ) h r b ∙
+        sym (ap (λ (es : List (List ℕ)). sum (map (λ (s : List ℕ). njhtjh2 h (eventIn s)) es)) (counted-by-row typ r (eventsOf book))))
+
+  pub events-add : (level : Level) (ts : List ℕ) → eachOnce ts ≡ true → EventsAdd book level ts
+  events-add level ts once =
+      record {
+        customers =
+            sum-across level (λ (typ : ℕ) (h : Level). cellOf (bookLedger book) (rowOf typ) (placeOf h) .customers .0) ts ∙
+            across-alike level _ _
+            (customers-count 0 (omega arith) ts once)
+            (customers-count 1 (omega arith) ts once)
+            (customers-count 2 (omega arith) ts once);
+        halves =
+            sum-across level (λ (typ : ℕ) (h : Level). cellOf (bookLedger book) (rowOf typ) (placeOf h) .halves .0) ts ∙
+            across-alike level _ _
+            (halves-count 0 (omega arith) ts once)
+            (halves-count 1 (omega arith) ts once)
+            (halves-count 2 (omega arith) ts once);
+      }

@@ -1,0 +1,10 @@
+pub mod SumLaws
+pub mod TypeLaws
+pub mod EventLaws
+pub mod TotalLaws
+pub mod FractionLaws
+pub mod BookLaws
+pub mod IndexLaws
+pub mod IdentityLaws
+pub mod AddingTheorem
+pub mod YearLaws

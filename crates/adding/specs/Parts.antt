@@ -1,0 +1,93 @@
+-- The parts that are added: levels, event types, and the events of a book, with 003's sums over them (4.3.1 of a level, 4.3.2 of the network) and
+-- the same figures as a ledger's cells have them.
+use Prim.Native.Nat.{ℕ, _+_, _*_}
+use mathlib.Core.List.{List, [], _∷_, map}
+use mathlib.Core.Bool.{Bool, true, _&&_, not}
+use lib.Dec.{ltb}
+use Rattle.base.specs.Lists.{sum, keep, listed}
+use Rattle.ratio.specs.declared.Fraction.{Fraction}
+use Rattle.ratio.specs.Fraction.{whole, plus}
+use Rattle.codes.specs.declared.Set.{Set}
+use Rattle.codes.specs.declared.Set.the-variants.{All, Std, Unnamed}
+use Rattle.codes.specs.Codes.{types, compliance, rows, rowOf}
+use Rattle.annex.specs.Figures.{customers, halfMinutes}
+use Rattle.annex.specs.Annex.{njh, njhtjh2, shortEvent}
+use Rattle.fields.specs.Fields.{headIn}
+use Rattle.ledger.specs.declared.Cell.{Cell}
+use Rattle.ledger.specs.declared.Ledger.{Ledger}
+use Rattle.ledger.specs.Ledger.{cellOf}
+use Rattle.book.specs.Accepted.{eventIn}
+use Rattle.index.specs.declared.Level.{Level}
+use Rattle.index.specs.declared.Level.the-variants.{NN, VN, VVN, Network}
+use Rattle.index.specs.declared.Index.{Index}
+use Rattle.index.specs.Sums.{servedOf}
+use Rattle.index.specs.Index.{topOf, divisorOf, weightOf}
+
+-- 003, 4.3.2: Σ from h = NN to h = VVN
+abbrev pub overLevels : (Level → ℕ) → ℕ
+overLevels f = f NN + f VN + f VVN
+
+-- of a level what is said of it, of the network the sum over the levels
+abbrev pub across : Level → (Level → ℕ) → ℕ
+across NN f = f NN
+across VN f = f VN
+across VVN f = f VVN
+across Network f = overLevels f
+
+-- a level's place among the three counts of a record and the three cells of a row; the network has none
+abbrev pub placeOf : Level → ℕ
+placeOf NN = 0
+placeOf VN = 1
+placeOf VVN = 2
+placeOf Network = 3
+
+-- the types that a set holds (01, "Codes"), and "types 13 to 16", which 'std' leaves out
+abbrev pub typesIn : Set → List ℕ
+typesIn All = types
+typesIn Std = compliance
+typesIn Unnamed = types
+
+abbrev pub rest : List ℕ
+rest = 13 ∷ 14 ∷ 15 ∷ 16 ∷ []
+
+-- each is a type of 9.2, and none stands there twice
+abbrev pub eachOnce : List ℕ → Bool
+eachOnce [] = true
+eachOnce (typ ∷ ts) = ltb (rowOf typ) rows && not (listed typ ts) && eachOnce ts
+
+-- the events of some types that are not short: those that count
+abbrev pub counted : List ℕ → List (List ℕ) → List (List ℕ)
+counted ts events = keep (λ (s : List ℕ). listed (headIn s .typ) ts && not (shortEvent (eventIn s))) events
+
+-- Σ_h Σ_j n_jh, over the counted events j of some types
+abbrev pub eventCustomers : List ℕ → Level → List (List ℕ) → ℕ
+eventCustomers ts level events = across level (λ (h : Level). sum (map (λ (s : List ℕ). njh (placeOf h) (eventIn s)) (counted ts events)))
+
+-- 2 · Σ_h Σ_j n_jh · t_jh, over the same events
+abbrev pub eventHalves : List ℕ → Level → List (List ℕ) → ℕ
+eventHalves ts level events = across level (λ (h : Level). sum (map (λ (s : List ℕ). njhtjh2 (placeOf h) (eventIn s)) (counted ts events)))
+
+-- a type's customers and half minutes in a ledger, of a level or of the network
+abbrev pub typeCustomers : Ledger → Level → ℕ → ℕ
+typeCustomers l level typ = across level (λ (h : Level). cellOf l (rowOf typ) (placeOf h) .customers .0)
+
+abbrev pub typeHalves : Ledger → Level → ℕ → ℕ
+typeHalves l level typ = across level (λ (h : Level). cellOf l (rowOf typ) (placeOf h) .halves .0)
+
+-- some types together, customers to customers and half minutes to half minutes
+abbrev pub together : Ledger → Level → List ℕ → Cell
+together l level ts =
+    record { customers = customers (sum (map (typeCustomers l level) ts)); halves = halfMinutes (sum (map (typeHalves l level) ts)) }
+
+-- 01's formula of an index for some types alone; N is that of the level or the network, whatever the types
+abbrev pub aloneOf : Ledger → Index → Level → List ℕ → Fraction
+aloneOf l index level ts =
+    record {
+      top = topOf index (together l level ts);
+      bottom = weightOf index * divisorOf index (together l level ts) (servedOf (l .sheet .totals) level);
+    }
+
+-- fractions added one after the other
+abbrev pub plusAll : List Fraction → Fraction
+plusAll [] = whole 0
+plusAll (f ∷ fs) = plus f (plusAll fs)

@@ -1,0 +1,4 @@
+pub mod Perm
+pub mod Each
+pub mod Reorder
+pub mod Turned

@@ -1,0 +1,4 @@
+pub mod PeopleLaws
+pub mod CellLaws
+pub mod SomeCustomers
+pub mod ExampleLaws

@@ -1,0 +1,2 @@
+pub mod People
+pub mod Example
