@@ -1,0 +1,7 @@
+pub mod AppendLaws
+pub mod DifferentLaws
+pub mod ByteLaws
+pub mod TotalLaws
+pub mod MapLaws
+pub mod Joining
+pub mod CutYear
