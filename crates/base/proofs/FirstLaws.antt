@@ -1,13 +1,14 @@
 -- The first rule that applies. Assumes nothing.
 use Prim.Native.Nat.{ℕ, _<_, _≤_}
 use mathlib.Core.Path.{_≡_, refl, sym, _∙_, ap, subst}
-use mathlib.Core.Logic.{_≢_}
-use mathlib.Core.List.{List, [], _∷_}
-use mathlib.Core.Bool.{Bool, true, false, cond, false≢true, true≢false}
+use mathlib.Core.Logic.{_≢_, _↔_}
+use mathlib.Core.List.{List, [], _∷_, map}
+use mathlib.Core.Bool.{Bool, true, false, cond, _||_, or-true, false≢true, true≢false}
 use lib.Dec.{T, ltb, eqb, ltb→lt}
 use native.Mathlib.Omega.{arith}
 use borrow.Author.Tests.{eqb-true, eqb-false, eq-eqb, ne-eqb}
 use Rattle.base.specs.First.{Rule, first, Clear, Foremost, Rising}
+use Rattle.base.specs.Lists.{listed}
 use Rattle.base.proofs.TestLaws.{Tested, holds, fails, test}
 
 one : (n : ℕ) (b : Bool) (rest k : ℕ) → k < n → cond b n rest ≡ 0 → (b ≡ false) × (rest ≡ 0)
@@ -58,3 +59,33 @@ module _ (n : ℕ) where
       go : (s : Bool) → eqb (q .0) n ≡ s → cond s (q .1 ≡ true) ((q .1 ≡ false) × Foremost n rs) → (Foremost n rs → first rs ≡ n) → cond (q .1) (q .0) (first rs) ≡ n
       go true a g ih = ap (λ t. cond t (q .0) (first rs)) g ∙ eqb-true (q .0) n a
       go false a g ih = ap (λ t. cond t (q .0) (first rs)) (g .0) ∙ ih (g .1)
+
+-- no rule applies, the last one neither: `Clear` of a list that is not empty, written out
+abbrev pub NoneOf : Rule → List Rule → Type 0
+NoneOf r [] = r .1 ≡ false
+NoneOf r (q ∷ rs) = (r .1 ≡ false) × NoneOf q rs
+
+pub none-of : (r : Rule) (rs : List Rule) → Clear (r ∷ rs) ↔ NoneOf r rs
+none-of r [] = (λ c. c .0, λ c. (c, tt))
+none-of r (q ∷ rs) = (λ c. (c .0, none-of q rs .0 (c .1)), λ c. (c .0, none-of q rs .1 (c .1)))
+
+-- the first number is 0 or a number of the list
+pub first-listed : (rs : List Rule) → (eqb (first rs) 0 || listed (first rs) (map (λ (r : Rule). r .0) rs)) ≡ true
+first-listed [] = refl
+first-listed (r ∷ rs) = go (r .1) (first-listed rs)
+  where
+    numbers : List ℕ
+    numbers = map (λ (r : Rule). r .0) rs
+
+    between : (a b c : Bool) → (a || c) ≡ true → (a || (b || c)) ≡ true
+    between true b c e = refl
+    between false true c e = refl
+    between false false c e = e
+
+    go :
+        (t : Bool) →
+        (eqb (first rs) 0 || listed (first rs) numbers) ≡ true →
+        let x = cond t (r .0) (first rs) in
+        (eqb x 0 || (eqb x (r .0) || listed x numbers)) ≡ true
+    go true h = rw (eq-eqb (r .0) (r .0) refl) (or-true (eqb (r .0) 0))
+    go false h = between (eqb (first rs) 0) (eqb (first rs) (r .0)) (listed (first rs) numbers) h

@@ -24,10 +24,10 @@ use Rattle.ledger.proofs.SoundLaws as ledger-laws
 use Rattle.slot.specs.declared.Slot.{Slot}
 use Rattle.slot.specs.Slot.{freeSlot, openedBy, steppedBy}
 use Rattle.slot.specs.Sound.{openSound, slotSound}
-use Rattle.slot.proofs.SoundLaws.{number-open}
+use Rattle.slot.proofs.SoundLaws.{free-sound, number-open}
 use Rattle.roll.specs.Desk.{slotCount, numberAt, deskSound, placeOf, slotOf}
 use Rattle.roll.specs.Roll.{numberIn}
-use Rattle.roll.proofs.SearchLaws.{free-sound, sound-at, desk-slots, desk-each, desk-differ, sound-set, found-number, place-held, absent-open, differ-apart}
+use Rattle.roll.proofs.SearchLaws.{sound-at, desk-slots, desk-each, desk-differ, sound-set, found-number, place-held, absent-open, differ-apart}
 use Rattle.wire.specs.Frame.{kindOf}
 use Rattle.plan.specs.Rules.{lookAt, stepIn}
 use Rattle.plan.specs.Plan.{answerAt}

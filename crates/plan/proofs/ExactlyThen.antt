@@ -10,7 +10,7 @@ use lib.Dec.{eqb, ltb}
 use borrow.Author.Tests.{eq-eqb, ne-eqb, lt-leb, le-ltb}
 use Rattle.base.specs.First.{Rule, first, Clear, Foremost}
 use Rattle.base.specs.Lists.{listed}
-use Rattle.base.proofs.FirstLaws.{exactly, then, clear, unclear}
+use Rattle.base.proofs.FirstLaws.{exactly, then, clear, unclear, NoneOf, none-of, first-listed}
 use Rattle.base.proofs.TestLaws.{or-both}
 use Rattle.wire.specs.Frame.{framed, kindOf}
 use Rattle.codes.specs.Codes.{levelOf}
@@ -29,36 +29,6 @@ use Rattle.plan.specs.Rules.{lookAt, ordinalIn, stepIn, rules, rulesAt, 
 use Rattle.plan.specs.Plan.{lookAnswer}
 use Rattle.plan.specs.Serve.{messageAnswer}
 use Rattle.plan.proofs.MessageLaws.{rising, opened, stepped, closed}
-
--- no rule applies, the last one neither: `Clear` of a list that is not empty, written out
-abbrev NoneOf : Rule → List Rule → Type 0
-NoneOf r [] = r .1 ≡ false
-NoneOf r (q ∷ rs) = (r .1 ≡ false) × NoneOf q rs
-
-none-of : (r : Rule) (rs : List Rule) → Clear (r ∷ rs) ↔ NoneOf r rs
-none-of r [] = (λ c. c .0, λ c. (c, tt))
-none-of r (q ∷ rs) = (λ c. (c .0, none-of q rs .0 (c .1)), λ c. (c .0, none-of q rs .1 (c .1)))
-
--- the first number is 0 or a number of the list
-first-listed : (rs : List Rule) → (eqb (first rs) 0 || listed (first rs) (map (λ (r : Rule). r .0) rs)) ≡ true
-first-listed [] = refl
-first-listed (r ∷ rs) = go (r .1) (first-listed rs)
-  where
-    numbers : List ℕ
-    numbers = map (λ (r : Rule). r .0) rs
-
-    between : (a b c : Bool) → (a || c) ≡ true → (a || (b || c)) ≡ true
-    between true b c e = refl
-    between false true c e = refl
-    between false false c e = e
-
-    go :
-        (t : Bool) →
-        (eqb (first rs) 0 || listed (first rs) numbers) ≡ true →
-        let x = cond t (r .0) (first rs) in
-        (eqb x 0 || (eqb x (r .0) || listed x numbers)) ≡ true
-    go true h = rw (eq-eqb (r .0) (r .0) refl) (or-true (eqb (r .0) 0))
-    go false h = between (eqb (first rs) 0) (eqb (first rs) (r .0)) (listed (first rs) numbers) h
 
 module _ (l : Ledger) (m : List ℕ) (d : List Slot) (s : List ℕ) where
   just : (n : ℕ) → (messageAnswer l m d s ≡ n) ↔ Foremost n (rules (lookAt d s) l m s)

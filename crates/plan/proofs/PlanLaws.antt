@@ -21,6 +21,7 @@ use Rattle.fields.specs.declared.Sheet.{Sheet}
 use Rattle.fields.specs.declared.Head.{Head}
 use Rattle.fields.proofs.TestLaws.{in-time, listed-row}
 use Rattle.record.specs.Verdict.{Fair, eventVerdict}
+use Rattle.record.proofs.FairLaws.{event-fair}
 use Rattle.ledger.specs.declared.Ledger.{Ledger}
 use Rattle.ledger.specs.Sound.{soundLedger, Fits}
 use Rattle.slot.specs.Sound.{slotSound, openSound}
@@ -148,34 +149,6 @@ module _ (k : Look) (l : Ledger) (m s : List ℕ) where
 pub event-answer : (sheet : Sheet) (h : Head) (end : ℕ) (f : Figures) → eventVerdict sheet h end f .answer ≡ 0
 unfolding eventVerdict
 event-answer sheet h end f = refl
-
--- an event whose row is listed and whose figures are within what one event may add, short or not
-module _ (sheet : Sheet) (events : ℕ) (h : Head) (end : ℕ) (f : Figures) where
-  event-fair : sheet .there ≡ true → events < 65535 → rowOf (h .typ) < 7 → ((level : ℕ) → level < 3 → Within f level) → Fair sheet events (eventVerdict sheet h end f)
-  unfolding eventVerdict
-  event-fair there room row within = go (isShort (h .t0) end)
-    where
-      go : (t : Bool) → Fair sheet events (record { answer = 0; sheet = sheet; number = h .number; events = 1; short = cond t 1 0; row = rowOf (h .typ); figures = cond t nothing f })
-      go true =
-          record {
-            row = row;
-            room = omega arith;
-            one = omega arith;
-            short = omega arith;
-            few = each-level (λ level. customersAt nothing level ≤ 10000000) (omega arith) (omega arith) (omega arith);
-            brief = each-level (λ level. halvesAt nothing level ≤ 12000000000000) (omega arith) (omega arith) (omega arith);
-            goes-on = inl (refl, inl there);
-          }
-      go false =
-          record {
-            row = row;
-            room = omega arith;
-            one = omega arith;
-            short = omega arith;
-            few = λ level i. within level i .0;
-            brief = λ level i. within level i .1;
-            goes-on = inl (refl, inl there);
-          }
 
 -- a sound ledger has room for the event that an accepted close adds
 pub close-fits :

@@ -77,7 +77,7 @@ module _ (sheet : Sheet) (events : ℕ) (most : events ≤ 65535) where
 
 -- an accepted event: short or not
 module _ (sheet : Sheet) (events : ℕ) (h : Head) (end : ℕ) (f : Figures) where
-  event-fair : sheet .there ≡ true → events < 65535 → rowOf (h .typ) < 7 → ((level : ℕ) → level < 3 → Within f level) → Fair sheet events (eventVerdict sheet h end f)
+  pub event-fair : sheet .there ≡ true → events < 65535 → rowOf (h .typ) < 7 → ((level : ℕ) → level < 3 → Within f level) → Fair sheet events (eventVerdict sheet h end f)
   unfolding eventVerdict
   event-fair there room row within = go (isShort (h .t0) end) refl
     where

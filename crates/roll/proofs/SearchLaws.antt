@@ -18,6 +18,7 @@ use Rattle.base.proofs.TestLaws.{and-left, and-right, and-both, or-both, or-lef
 use Rattle.slot.specs.declared.Slot.{Slot}
 use Rattle.slot.specs.Slot.{freeSlot}
 use Rattle.slot.specs.Sound.{isFree, slotSound}
+use Rattle.slot.proofs.SoundLaws.{free-sound}
 use Rattle.roll.specs.Desk.{slotCount, emptyDesk, numberAt, numbersOf, differ, deskSound, placeOf, slotOf}
 
 -- ---- a list with one element replaced
@@ -271,10 +272,6 @@ pub slot-absent : (v : ℕ) (d : List Slot) → length d ≤ placeOf v d → slo
 slot-absent v d l = List·getD-eq-default d freeSlot l
 
 -- ---- soundness, slot by slot
-
-pub free-sound : slotSound freeSlot ≡ true
-unfolding slotSound isFree
-free-sound = refl
 
 -- the slot at any index of a desk of sound slots, past the end too
 pub sound-at : (d : List Slot) → every slotSound d ≡ true → (i : ℕ) → slotSound (getD d i freeSlot) ≡ true

@@ -56,7 +56,7 @@ use Rattle.roll.proofs.Roll.with.Symbol.{name as #roll·Roll·with}
 use Rattle.roll.proofs.Roll.with.Met as with-slot-thm
 use Rattle.desk.proofs.SlotLaws.{R, vals, tells, place-slot, offset-fits, after, ty-at, slot-shows, slot-copy, slot-makes, slot-typed}
 use Rattle.desk.proofs.Rows.{RollR, roll-mach, roll-vals, roll-tells, roll-makes, roll-typed}
-use Rattle.desk.proofs.RollLaws.{turn-keeps, end-keeps}
+use Rattle.roll.proofs.RollLaws.{turned, at-end}
 use Rattle.desk.proofs.roll_of.Key.{name as #desk·roll-of}
 use Rattle.desk.proofs.roll_of as roll-of
 use Rattle.desk.proofs.roll_of.Statement as stated
@@ -174,7 +174,7 @@ module _ {M : Type 1} (𝓤 : URA M) (H : Heap 𝓤) (A : Atoms 𝓤) (W : Given
         -- [the token; what desk owns; _8; …]
         returns ! (look ! 18 refl) $ forget ! 6 refl $ forget ! 8 refl $ forget ! 10 refl $ forget ! 12 refl $ forget ! 14 refl $ forget ! 16 refl $ forget ! 18 refl $
         move ! (18 ∷ 19 ∷ []) $ free1 ! $ move ! (16 ∷ 17 ∷ []) $ free1 ! $ move ! (14 ∷ 15 ∷ []) $ free1 ! $ move ! (12 ∷ 13 ∷ []) $ free1 ! $ move ! (10 ∷ 11 ∷ []) $ free1 ! $ move ! (8 ∷ 9 ∷ []) $ free1 ! $ move ! (6 ∷ 7 ∷ []) $ free1 ! $ move ! (4 ∷ 5 ∷ []) $ free1 ! $ move ! (2 ∷ 3 ∷ []) $ free1 ! $ free0 ! $
-        by ! (exits (t .1 .0) (end-keeps ys (t .0) (t .1 .0) (nltb→le (t .0) n over) ∙ t .1 .1 .1) (t .1 .1 .2)))
+        by ! (exits (t .1 .0) (sym (at-end (t .1 .0) (t .0) ys (nltb→le (t .0) n over)) ∙ t .1 .1 .1) (t .1 .1 .2)))
       where
         elem : Upto → Slot
         elem u = getD ys (u .0) freeSlot
@@ -183,7 +183,7 @@ module _ {M : Type 1} (𝓤 : URA M) (H : Heap 𝓤) (A : Atoms 𝓤) (W : Given
         found u = rolledSlot (u .1 .0) (u .0) (getD ys (u .0) freeSlot)
 
         following : (u : Upto) → u .0 < n → Is RollR (found u) (roll-vals (found u)) → Upto
-        following u l g = (u .0 + 1, (found u, (add-one-le l, turn-keeps ys (u .0) (u .1 .0) l ∙ u .1 .1 .1, g)))
+        following u l g = (u .0 + 1, (found u, (add-one-le l, sym (turned (u .1 .0) (u .0) ys l) ∙ u .1 .1 .1, g)))
 
   walk : (𝓣 : Tables 𝓤 H) → FmC 𝓤 H (W .laws) (𝓣 .C) → Triple 𝓤 (𝓣 .C #roll·Roll·with) (WithSlot 𝓤 H A mem run)
       → ent 𝓤 (onEntry 𝓤 H A roll-of.signature (κ, tt) (q, tt) x at) (WpFn 𝓤 H (𝓣 .C) (𝓣 .Λ) code.function (v ∷ roll-mach start ∷ []) Post)
