@@ -1,13 +1,11 @@
 -- The theorem *exactly then* (01, "Refusal numbers"): for each number of the book entry, a record is answered by it exactly when what the number stands
 -- for applies and nothing that a smaller number stands for does; and no other number is answered. Assumes nothing.
 use Prim.Native.Nat.{ℕ}
-use mathlib.Core.Path.{_≡_, refl}
+use mathlib.Core.Path.{_≡_}
 use mathlib.Core.Logic.{_↔_}
-use mathlib.Core.List.{List, [], _∷_, map}
-use mathlib.Core.Bool.{Bool, true, false, _||_, cond, or-true}
-use lib.Dec.{eqb}
-use borrow.Author.Tests.{eq-eqb}
-use Rattle.base.specs.First.{Rule, first, Clear, Foremost, Rising}
+use mathlib.Core.List.{List, [], _∷_}
+use mathlib.Core.Bool.{true, false}
+use Rattle.base.specs.First.{Clear, Foremost, Rising}
 use Rattle.base.specs.Lists.{listed}
 use Rattle.base.proofs.FirstLaws.{exactly, then, clear, unclear, NoneOf, none-of, first-listed}
 use Rattle.wire.specs.Frame.{kindOf}

@@ -3,12 +3,12 @@
 use Prim.Native.Nat.{ℕ, _+_, _<_, _≤_}
 use mathlib.Core.Path.{_≡_, refl, sym, ap, subst}
 use mathlib.Core.Logic.{_≢_, _↔_}
-use mathlib.Core.List.{List, [], _∷_, map}
-use mathlib.Core.Bool.{Bool, true, false, _||_, not, cond, or-true}
+use mathlib.Core.List.{List, [], _∷_}
+use mathlib.Core.Bool.{Bool, true, false, not}
 use lib.ListN.{length}
 use lib.Dec.{eqb, ltb}
 use borrow.Author.Tests.{eq-eqb, ne-eqb, lt-leb, le-ltb}
-use Rattle.base.specs.First.{Rule, first, Clear, Foremost}
+use Rattle.base.specs.First.{Clear, Foremost}
 use Rattle.base.specs.Lists.{listed}
 use Rattle.base.proofs.FirstLaws.{exactly, then, clear, unclear, NoneOf, none-of, first-listed}
 use Rattle.base.proofs.TestLaws.{or-both}

@@ -1,26 +1,19 @@
 -- What a plan is, by its answer: callers cite these laws and not the definitions. Assumes nothing.
 use Prim.Native.Nat.{ℕ, _<_, _≤_}
 use mathlib.Core.Path.{_≡_, refl, sym, _∙_, ap}
-use mathlib.Core.Logic.{inl}
 use mathlib.Core.List.{List}
 use mathlib.Core.Bool.{Bool, true, false, cond, not}
 use lib.Dec.{eqb}
-use native.Mathlib.Omega.{arith}
 use borrow.Author.Tests.{eq-eqb, ne-eqb, eqb-true, eqb-false, leb-false, not-false}
 use Rattle.base.specs.First.{first, Clear, Foremost}
 use Rattle.base.proofs.FirstLaws.{clear, then}
 use Rattle.base.proofs.TestLaws.{Tested, holds, fails, test, or-left, or-right}
 use Rattle.wire.specs.Frame.{framed, kindOf}
-use Rattle.codes.specs.Codes.{rowOf}
 use Rattle.annex.specs.declared.Figures.{Figures}
-use Rattle.annex.specs.Figures.{nothing, customersAt, halvesAt}
-use Rattle.annex.specs.Times.{isShort}
-use Rattle.annex.specs.Bounds.{Within}
-use Rattle.annex.proofs.FoldLaws.{each-level}
 use Rattle.fields.specs.declared.Sheet.{Sheet}
 use Rattle.fields.specs.declared.Head.{Head}
 use Rattle.fields.proofs.TestLaws.{in-time, listed-row}
-use Rattle.record.specs.Verdict.{Fair, eventVerdict}
+use Rattle.record.specs.Verdict.{eventVerdict}
 use Rattle.record.proofs.FairLaws.{event-fair}
 use Rattle.ledger.specs.declared.Ledger.{Ledger}
 use Rattle.ledger.specs.Sound.{soundLedger, Fits}

@@ -1,9 +1,8 @@
 -- At each turn the number is listed from the start on if it was hit so far or is listed in what is left of the table. Assumes nothing.
-use Prim.Native.Nat.{_≤_, _-_, _+_}
-use mathlib.Core.Path.{_≡_, refl, _∙_, sym}
+use Prim.Native.Nat.{_-_}
+use mathlib.Core.Path.{_≡_, _∙_, sym}
 use mathlib.Core.Bool.{_||_}
 use lib.ListN.{length, drop}
-use native.Mathlib.Omega.{arith}
 use Rattle.base.specs.Lists.{listed}
 use Rattle.base.proofs.ListLaws.{listed-more, listed-ends}
 use borrow.Author.Needs.{needs}

@@ -1,8 +1,7 @@
 -- The search has passed as many entries as its index says, none of which has the number. Assumes nothing.
-use Prim.Native.Nat.{_≤_, _-_}
+use Prim.Native.Nat.{_-_}
 use mathlib.Core.Path.{_≡_, sym, _∙_}
 use lib.ListN.{length}
-use native.Mathlib.Omega.{arith}
 use borrow.Author.Needs.{needs}
 use Rattle.roll.proofs.TableLaws.{Come, begins, passes-on, found, ended}
 use Rattle.roll.proofs.place_in.Statement.{statement}

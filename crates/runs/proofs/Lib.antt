@@ -1,0 +1,9 @@
+pub mod MessageLaws
+pub mod LeadLaws
+pub mod EventLaws
+pub mod WrittenAgain
+pub mod BuiltUp
+pub mod TellLaws
+pub mod JoinLaws
+pub mod DeskToo
+pub mod ExampleLaws
