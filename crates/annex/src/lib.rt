@@ -6,12 +6,15 @@ ghost use Rattle.annex.specs.Simple.{halvesOf, simpleFigures, InOrder};
 ghost use Rattle.annex.specs.Times.{minutesIn, isShort};
 
 // Customers interrupted.
+#[repr(C)]
 pub struct Customers(pub u64);
 
 // Half customer-minutes: twice the minutes, so that the annex's half is kept.
+#[repr(C)]
 pub struct HalfMinutes(pub u64);
 
 // What the step fold carries and what an event adds, for NN, VN and VVN: the largest counts and the half customer-minutes.
+#[repr(C)]
 pub struct Figures {
     pub customers: [Customers; 3],
     pub halves: [HalfMinutes; 3],

@@ -17,6 +17,7 @@ pub struct Sheet {
 }
 
 // What a simple event, a stepped event and an opened outage begin with.
+#[repr(C)]
 pub struct Head {
     pub number: u16,
     pub typ: u8,

@@ -12,6 +12,7 @@ use annex::Step;
 use fields::Head;
 
 // What the outage began with, the last step's time (T0 before the first), the steps taken, and the figures that they fold to.
+#[repr(C)]
 pub struct Slot {
     pub head: Head,
     pub last: u32,

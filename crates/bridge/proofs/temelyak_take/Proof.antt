@@ -1,0 +1,45 @@
+-- The ledger handed on stands for the words; what `take` and `settle` make of it is what the definition says. Assumes nothing.
+use mathlib.Core.Path.{ap, _∙_}
+use Rattle.ledger.specs.declared.Ledger.{Ledger}
+use Rattle.ledger.specs.declared.Taken.{Taken}
+use Rattle.ledger.specs.Take.{mapAfter, takenOf}
+use Rattle.bridge.specs.Calls.{headed}
+use Rattle.bridge.specs.Inside.{settled}
+use Rattle.bridge.proofs.CallLaws.{take-answer-is, take-words-is, take-map-is}
+use borrow.Author.Needs.{needs}
+use Rattle.bridge.proofs.temelyak_take.Statement.{statement}
+use Rattle.bridge.proofs.temelyak_take.Tie as tie
+
+lent-ledger-requires : tie.Need-lent-ledger-requires
+lent-ledger-requires c κs = search needs
+
+take-requires : tie.Need-take-requires
+take-requires c κs = search needs
+
+settle-requires : tie.Need-settle-requires
+settle-requires c κs = search needs
+
+same-length : tie.Need-same-length
+same-length c = search needs
+
+same-length-2 : tie.Need-same-length-2
+same-length-2 c = search needs
+
+returns : tie.Need-returns
+returns c =
+    let a = c .before .before .before .before .before .before .before .before .before .before .before .before .before .args in
+    let ws = a .ledger .now in
+    let m = a .map .now in
+    let s = a .bytes .now in
+    let l = c .before .before .before .before .before .before .before .before .lent-ledger .ensures in
+    let t = c .before .before .before .before .before .before .take .ensures in
+    let taken = t .0 ∙ ap (λ (x : Ledger). takenOf x m s) l in (
+      c .before .before .settle .ensures .0 ∙ ap (λ (x : Taken). headed (a .header) (x .answer)) taken ∙ take-answer-is (a .header) ws m s,
+      c .before .before .settle .ensures .1 ∙ ap (settled (a .header) ws) taken ∙ take-words-is (a .header) ws m s,
+      t .1 ∙ ap (λ (x : Ledger). mapAfter x m s) l ∙ take-map-is (a .header) ws m s,
+    )
+
+pub temelyak-take-spec : {M : Type 1} → statement M
+temelyak-take-spec =
+    tie.close
+    (tie.spec lent-ledger-requires take-requires settle-requires same-length same-length-2 returns)

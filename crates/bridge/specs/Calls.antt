@@ -1,0 +1,128 @@
+-- What each call of include/temelyak.h answers, and what it leaves in all that was lent, by the call behind it.
+use Prim.Native.Nat.{ℕ, _+_, _*_, _^_}
+use mathlib.Core.List.{List, [], _∷_}
+use mathlib.Core.Bool.{Bool, _&&_, cond}
+use lib.ListN.{length, getD, drop}
+use lib.Dec.{eqb}
+use Rattle.marks.specs.Marks.{mapSize}
+use Rattle.decimal.specs.declared.Shown.{Shown}
+use Rattle.decimal.specs.Decimal.{decimally}
+use Rattle.ledger.specs.Ledger.{emptyLedger}
+use Rattle.ledger.specs.Take.{answerOf, ledgerAfter, mapAfter}
+use Rattle.book.specs.declared.Read.{Read}
+use Rattle.book.specs.Book.{readOf, mapRead}
+use Rattle.index.specs.declared.Answer.{Answer}
+use Rattle.index.specs.Index.{indexOf, exactly, shownIndex}
+use Rattle.slot.specs.declared.Slot.{Slot}
+use Rattle.roll.specs.Desk.{slotCount}
+use Rattle.plan.specs.Serve.{messageAnswer, ledgerServed, mapServed, deskServed}
+use Rattle.bridge.specs.Words.{ledgerWords, wordsFit, ledgerIn, flagOf, wordsOf}
+use Rattle.bridge.specs.Named.{indexNamed, levelNamed, setNamed, allNamed}
+
+-- TEMELYAK_VERSION and TEMELYAK_SLOT_BYTES
+abbrev pub version : ℕ
+version = 1
+
+abbrev pub slotBytes : ℕ
+slotBytes = 72
+
+-- TEMELYAK_HEADER
+abbrev pub headerWord : ℕ
+headerWord = version * 2 ^ 32 + ledgerWords * 2 ^ 16 + slotBytes
+
+-- 254: "the caller was built with another header"; else the answer
+abbrev pub headed : ℕ → ℕ → ℕ
+headed header answer = cond (eqb header headerWord) answer 254
+
+-- 1 where words hold no ledger or an output has another length, that is, where what was lent does not fit; else the answer of the call behind
+abbrev pub answered : ℕ → Bool → ℕ → ℕ
+answered header fits answer = headed header (cond fits answer 1)
+
+-- "On a refusal no lent memory is changed"
+abbrev pub ifAccepted : {X : Type 0} → ℕ → X → X → X
+ifAccepted answer next same = cond (eqb answer 0) next same
+
+-- an output of two words
+abbrev pub isPair : List ℕ → Bool
+isPair out = eqb (length out) 2
+
+-- ---- temelyak_empty
+
+unfoldable pub emptyAnswer : ℕ → List ℕ → ℕ
+emptyAnswer header ws = answered header (eqb (length ws) ledgerWords) 0
+
+unfoldable pub emptyWords : ℕ → List ℕ → List ℕ
+emptyWords header ws = ifAccepted (emptyAnswer header ws) (wordsOf emptyLedger) ws
+
+-- ---- temelyak_take: words ws, map m, record s
+
+unfoldable pub takeAnswer : ℕ → List ℕ → List ℕ → List ℕ → ℕ
+takeAnswer header ws m s = answered header (wordsFit ws) (answerOf (ledgerIn ws) m s)
+
+unfoldable pub takeWords : ℕ → List ℕ → List ℕ → List ℕ → List ℕ
+takeWords header ws m s = ifAccepted (takeAnswer header ws m s) (wordsOf (ledgerAfter (ledgerIn ws) m s)) ws
+
+unfoldable pub takeMap : ℕ → List ℕ → List ℕ → List ℕ → List ℕ
+takeMap header ws m s = ifAccepted (takeAnswer header ws m s) (mapAfter (ledgerIn ws) m s) m
+
+-- ---- temelyak_take_book: words ws, map m, book b, output out
+
+abbrev pub bookRead : List ℕ → List ℕ → List ℕ → Read
+bookRead ws m b = readOf (ledgerIn ws) m b
+
+unfoldable pub bookAnswer : ℕ → List ℕ → List ℕ → List ℕ → List ℕ → ℕ
+bookAnswer header ws m b out = answered header (wordsFit ws && isPair out) (bookRead ws m b .answer)
+
+unfoldable pub bookWords : ℕ → List ℕ → List ℕ → List ℕ → List ℕ → List ℕ
+bookWords header ws m b out = ifAccepted (bookAnswer header ws m b out) (wordsOf (bookRead ws m b .ledger)) ws
+
+unfoldable pub bookMap : ℕ → List ℕ → List ℕ → List ℕ → List ℕ → List ℕ
+bookMap header ws m b out = ifAccepted (bookAnswer header ws m b out) (mapRead (ledgerIn ws) m b) m
+
+-- the refused records, and 1 where a broken length ended the book
+unfoldable pub bookOut : ℕ → List ℕ → List ℕ → List ℕ → List ℕ → List ℕ
+bookOut header ws m b out = ifAccepted (bookAnswer header ws m b out) (bookRead ws m b .refused ∷ flagOf (bookRead ws m b .broken) ∷ []) out
+
+-- ---- temelyak_serve: words ws, map m, desk d, message s
+
+unfoldable pub serveAnswer : ℕ → List ℕ → List ℕ → List Slot → List ℕ → ℕ
+serveAnswer header ws m d s = answered header (wordsFit ws) (messageAnswer (ledgerIn ws) m d s)
+
+unfoldable pub serveWords : ℕ → List ℕ → List ℕ → List Slot → List ℕ → List ℕ
+serveWords header ws m d s = ifAccepted (serveAnswer header ws m d s) (wordsOf (ledgerServed (ledgerIn ws) m d s)) ws
+
+unfoldable pub serveMap : ℕ → List ℕ → List ℕ → List Slot → List ℕ → List ℕ
+serveMap header ws m d s = ifAccepted (serveAnswer header ws m d s) (mapServed (ledgerIn ws) m d s) m
+
+unfoldable pub serveDesk : ℕ → List ℕ → List ℕ → List Slot → List ℕ → List Slot
+serveDesk header ws m d s = ifAccepted (serveAnswer header ws m d s) (deskServed (ledgerIn ws) m d s) d
+
+-- ---- temelyak_index and temelyak_decimal: words ws, output out; 255 for a code that names none comes before all else
+
+abbrev pub indexAsked : List ℕ → ℕ → ℕ → ℕ → Answer
+indexAsked ws index level set = indexOf (ledgerIn ws) (indexNamed index) (levelNamed level) (setNamed set)
+
+unfoldable pub indexAnswer : ℕ → List ℕ → ℕ → ℕ → ℕ → List ℕ → ℕ
+indexAnswer header ws index level set out =
+    cond (allNamed index level set) (answered header (wordsFit ws && isPair out) (getD (exactly (indexAsked ws index level set)) 0 0)) 255
+
+-- top and bottom
+unfoldable pub indexOut : ℕ → List ℕ → ℕ → ℕ → ℕ → List ℕ → List ℕ
+indexOut header ws index level set out = ifAccepted (indexAnswer header ws index level set out) (drop 1 (exactly (indexAsked ws index level set))) out
+
+abbrev pub decimalAsked : List ℕ → ℕ → ℕ → ℕ → ℕ → Shown
+decimalAsked ws index level set digits = shownIndex (ledgerIn ws) (indexNamed index) (levelNamed level) (setNamed set) digits
+
+unfoldable pub decimalAnswer : ℕ → List ℕ → ℕ → ℕ → ℕ → ℕ → List ℕ → ℕ
+decimalAnswer header ws index level set digits out =
+    cond (allNamed index level set) (answered header (wordsFit ws && isPair out) (getD (decimally (decimalAsked ws index level set digits)) 0 0)) 255
+
+-- the whole part and the digits
+unfoldable pub decimalOut : ℕ → List ℕ → ℕ → ℕ → ℕ → ℕ → List ℕ → List ℕ
+decimalOut header ws index level set digits out =
+    ifAccepted (decimalAnswer header ws index level set digits out) (drop 1 (decimally (decimalAsked ws index level set digits))) out
+
+-- ---- temelyak_built
+
+abbrev pub builtOf : ℕ → ℕ
+builtOf which = getD (version ∷ ledgerWords ∷ slotBytes ∷ mapSize ∷ slotCount ∷ []) which 0
