@@ -5,7 +5,6 @@ use annex::HalfMinutes;
 use fields::Sheet;
 use ledger::Cell;
 use ledger::Ledger;
-use ledger::Taken;
 use libc::STDOUT_FILENO;
 use slot::Slot;
 
