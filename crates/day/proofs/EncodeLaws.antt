@@ -25,7 +25,8 @@ use Rattle.marks.specs.Marks.{marked, markedWith}
 use Rattle.fields.specs.declared.Head.{Head}
 use Rattle.fields.specs.declared.Sheet.{Sheet}
 use Rattle.fields.specs.Fields.{headIn, stepAt, stepsFrom, stepCount, stepsIn}
-use Rattle.fields.specs.Tests.{headListed, exceeding, aboveLevel, anyLate}
+use Rattle.fields.specs.Tests.{headListed}
+use Rattle.limits.specs.Limits.{exceeding, aboveLevel, anyLate}
 use Rattle.record.specs.declared.Verdict.{Verdict}
 use Rattle.record.specs.Rules.{lengthWrong, notListed, timeWrong, countTooLarge, countTooHigh, alreadyMarked, ledgerFull}
 use Rattle.record.specs.Verdict.{eventVerdict, verdictOf}

@@ -13,7 +13,7 @@ use Rattle.annex.specs.declared.Figures.{Figures}
 use Rattle.annex.specs.Figures.{nothing, withStep}
 use Rattle.annex.specs.Stepped.{folded, lastTime}
 use Rattle.fields.specs.declared.Sheet.{Sheet}
-use Rattle.fields.specs.Tests.{exceeding, aboveLevel, lateStep, anyLate}
+use Rattle.limits.specs.Limits.{exceeding, aboveLevel, lateStep, anyLate}
 use Rattle.slot.specs.Slot.{steppedBy}
 use Rattle.day.specs.Story.{Event, slotHolding}
 use Rattle.day.proofs.EncodeLaws.{StepInBytes, Passed}

@@ -14,7 +14,7 @@ use Rattle.marks.specs.Marks.{marked, markedWith, mapSize}
 use Rattle.marks.proofs.MarkLaws.{markedWith-same, markedWith-other}
 use Rattle.fields.specs.declared.Head.{Head}
 use Rattle.fields.specs.declared.Sheet.{Sheet}
-use Rattle.fields.specs.Tests.{lateStep, exceeding, aboveLevel}
+use Rattle.limits.specs.Limits.{lateStep, exceeding, aboveLevel}
 use Rattle.fields.proofs.TestLaws.{listed-number}
 use Rattle.codes.specs.Codes.{levelOf}
 use Rattle.record.specs.Verdict.{eventVerdict}

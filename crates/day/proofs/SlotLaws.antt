@@ -20,7 +20,8 @@ use Rattle.annex.specs.Bounds.{Few}
 use Rattle.annex.proofs.FoldLaws.{each-level, step-customers, step-halves}
 use Rattle.annex.proofs.Bounds.{few-at}
 use Rattle.fields.specs.declared.Head.{Head}
-use Rattle.fields.specs.Tests.{headListed, aboveLevel, figuresAbove}
+use Rattle.fields.specs.Tests.{headListed}
+use Rattle.limits.specs.Limits.{aboveLevel, figuresAbove}
 use Rattle.slot.specs.declared.Slot.{Slot}
 use Rattle.slot.specs.Slot.{openedBy, steppedBy}
 use Rattle.slot.specs.Sound.{noCustomers, levelWithin, openSound, slotSound}

@@ -14,7 +14,8 @@ use Rattle.annex.specs.Bounds.{Few}
 use Rattle.marks.specs.Marks.{mapSize}
 use Rattle.marks.proofs.MarkLaws.{markedWith-size}
 use Rattle.fields.specs.Fields.{headIn}
-use Rattle.fields.proofs.TestLaws.{in-time, within-totals, range-few}
+use Rattle.fields.proofs.TestLaws.{range-few}
+use Rattle.limits.proofs.LimitLaws.{in-time, within-totals}
 use Rattle.ledger.specs.declared.Ledger.{Ledger}
 use Rattle.ledger.specs.Sound.{soundLedger}
 use Rattle.ledger.specs.Take.{unsound}

@@ -15,20 +15,6 @@ use Rattle.fields.proofs.Sheet.in_range.Kinds as in-range-kinds
 use Rattle.fields.proofs.Sheet.in_range.Reads as in-range
 use Rattle.fields.proofs.Head.listed.Kinds as listed-kinds
 use Rattle.fields.proofs.Head.listed.Reads as listed
-use Rattle.fields.proofs.exceeds.Kinds as exceeds-kinds
-use Rattle.fields.proofs.exceeds.Reads as exceeds
-use Rattle.fields.proofs.is_above.Kinds as is-above-kinds
-use Rattle.fields.proofs.is_above.Reads as is-above
-use Rattle.fields.proofs.figures_exceed.Kinds as figures-exceed-kinds
-use Rattle.fields.proofs.figures_exceed.Reads as figures-exceed
-use Rattle.fields.proofs.figures_above.Kinds as figures-above-kinds
-use Rattle.fields.proofs.figures_above.Reads as figures-above
-use Rattle.fields.proofs.is_late.Kinds as is-late-kinds
-use Rattle.fields.proofs.is_late.Reads as is-late
-use Rattle.fields.proofs.is_simple_late.Kinds as is-simple-late-kinds
-use Rattle.fields.proofs.is_simple_late.Reads as is-simple-late
-use Rattle.fields.proofs.is_none_then_some.Kinds as is-none-then-some-kinds
-use Rattle.fields.proofs.is_none_then_some.Reads as is-none-then-some
 
 pub sheet-of-one : OneOutcome sheet-of-kinds.ps sheet-of-kinds.r sheet-of.Post
 sheet-of-one κs a x y v w p q = (alike p q, refl)
@@ -50,24 +36,3 @@ in-range-one κs a x y v w p q = (alike p q, refl)
 
 pub listed-one : OneOutcome listed-kinds.ps listed-kinds.r listed.Post
 listed-one κs a x y v w p q = (alike p q, refl)
-
-pub exceeds-one : OneOutcome exceeds-kinds.ps exceeds-kinds.r exceeds.Post
-exceeds-one κs a x y v w p q = (alike p q, refl)
-
-pub is-above-one : OneOutcome is-above-kinds.ps is-above-kinds.r is-above.Post
-is-above-one κs a x y v w p q = (alike p q, refl)
-
-pub figures-exceed-one : OneOutcome figures-exceed-kinds.ps figures-exceed-kinds.r figures-exceed.Post
-figures-exceed-one κs a x y v w p q = (alike p q, refl)
-
-pub figures-above-one : OneOutcome figures-above-kinds.ps figures-above-kinds.r figures-above.Post
-figures-above-one κs a x y v w p q = (alike p q, refl)
-
-pub is-late-one : OneOutcome is-late-kinds.ps is-late-kinds.r is-late.Post
-is-late-one κs a x y v w p q = (alike p q, refl)
-
-pub is-simple-late-one : OneOutcome is-simple-late-kinds.ps is-simple-late-kinds.r is-simple-late.Post
-is-simple-late-one κs a x y v w p q = (alike p q, refl)
-
-pub is-none-then-some-one : OneOutcome is-none-then-some-kinds.ps is-none-then-some-kinds.r is-none-then-some.Post
-is-none-then-some-one κs a x y v w p q = (alike p q, refl)

@@ -1,14 +1,8 @@
--- What 01 tests of a record's fields, each as its sentence has it ("Bytes on the wire", "Codes", "What one event adds", "Refusal numbers").
-use Prim.Native.Nat.{ℕ}
-use mathlib.Core.List.{List, [], _∷_}
-use mathlib.Core.Bool.{Bool, true, false, _&&_, _||_, not}
+-- What 01 tests of a sheet and of a head, each as its sentence has it ("Bytes on the wire", "Codes", "Refusal numbers").
+use mathlib.Core.Bool.{Bool, _&&_, not}
 use lib.ListN.{getD}
 use lib.Dec.{leb, ltb, eqb}
 use Rattle.codes.specs.Codes.{rowOf, levelOf, causeListed, rows, levels}
-use Rattle.annex.specs.declared.Simple.{Simple}
-use Rattle.annex.specs.declared.Step.{Step}
-use Rattle.annex.specs.declared.Figures.{Figures}
-use Rattle.annex.specs.Figures.{customersAt}
 use Rattle.fields.specs.declared.Sheet.{Sheet}
 use Rattle.fields.specs.declared.Head.{Head}
 
@@ -24,46 +18,3 @@ inRange sheet =
 -- not "number 0, or a type, voltage or cause not listed"
 abbrev pub headListed : Head → Bool
 headListed h = not (eqb (h .number) 0) && ltb (rowOf (h .typ)) rows && ltb (levelOf (h .voltage)) levels && causeListed (h .cause)
-
--- "a count exceeds its level's customers"
-abbrev pub exceeding : List ℕ → List ℕ → Bool
-exceeding totals counts =
-    ltb (getD totals 0 0) (getD counts 0 0) || ltb (getD totals 1 0) (getD counts 1 0) || ltb (getD totals 2 0) (getD counts 2 0)
-
--- "a count above 0 on a level higher than the event's"
-abbrev pub aboveLevel : ℕ → List ℕ → Bool
-aboveLevel level counts = (ltb level 1 && ltb 0 (getD counts 1 0)) || (ltb level 2 && ltb 0 (getD counts 2 0))
-
--- the same two tests of figures, whose customers are the largest counts of any step
-abbrev pub exceedingFigures : List ℕ → Figures → Bool
-exceedingFigures totals f =
-    ltb (getD totals 0 0) (customersAt f 0) || ltb (getD totals 1 0) (customersAt f 1) || ltb (getD totals 2 0) (customersAt f 2)
-
-abbrev pub figuresAbove : ℕ → Figures → Bool
-figuresAbove level f = (ltb level 1 && ltb 0 (customersAt f 1)) || (ltb level 2 && ltb 0 (customersAt f 2))
-
--- "no time is before the one before it"; "other times are at most 600,000"
-abbrev pub lateStep : ℕ → ℕ → Bool
-lateStep before time = ltb time before || ltb 600000 time
-
-abbrev pub anyLate : ℕ → List Step → Bool
-anyLate before [] = false
-anyLate before (s ∷ ss) = lateStep before (s .time) || anyLate (s .time) ss
-
--- not "T0 <= T1 <= T2 <= T3; T4 is at least T0", not "other times are at most 600,000", or not "a planned event has T1 = T0"
-abbrev pub simpleLate : ℕ → Simple → Bool
-simpleLate typ e =
-    ltb (e .t1) (e .t0) ||
-    ltb (e .t2) (e .t1) ||
-    ltb (e .t3) (e .t2) ||
-    ltb 600000 (e .t3) ||
-    ltb (e .t4) (e .t0) ||
-    ltb 600000 (e .t4) ||
-    (eqb typ 2 && not (eqb (e .t1) (e .t0)))
-
--- "n1 is 0 and n2 is not, on some level"
-abbrev pub noneThenSome : Simple → Bool
-noneThenSome e =
-    (eqb (getD (e .n1) 0 0) 0 && ltb 0 (getD (e .n2) 0 0)) ||
-    (eqb (getD (e .n1) 1 0) 0 && ltb 0 (getD (e .n2) 1 0)) ||
-    (eqb (getD (e .n1) 2 0) 0 && ltb 0 (getD (e .n2) 2 0))

@@ -12,7 +12,8 @@ use Rattle.wire.specs.Frame.{framed, kindOf}
 use Rattle.annex.specs.declared.Figures.{Figures}
 use Rattle.fields.specs.declared.Sheet.{Sheet}
 use Rattle.fields.specs.declared.Head.{Head}
-use Rattle.fields.proofs.TestLaws.{in-time, listed-row}
+use Rattle.fields.proofs.TestLaws.{listed-row}
+use Rattle.limits.proofs.LimitLaws.{in-time}
 use Rattle.record.specs.Verdict.{eventVerdict}
 use Rattle.record.proofs.FairLaws.{event-fair}
 use Rattle.ledger.specs.declared.Ledger.{Ledger}

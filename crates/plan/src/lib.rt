@@ -133,9 +133,9 @@ fn plan_step(slots: usize, roll: Roll, slot: Slot, ledger: Ledger, map: &[u8], b
     let head = slot.head;
     let at = roll.named(bytes);
     let rest = first_of_step(
-        fields::is_late(step.time, slot.last),
-        fields::exceeds(counts, totals),
-        fields::is_above(counts, codes::level_of(head.voltage)),
+        limits::is_late(step.time, slot.last),
+        limits::exceeds(counts, totals),
+        limits::is_above(counts, codes::level_of(head.voltage)),
     );
     let answer = first_of_named(
         !sheet.there,

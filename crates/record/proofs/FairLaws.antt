@@ -23,8 +23,10 @@ use Rattle.annex.proofs.Bounds.{simple-within, stepped-within}
 use Rattle.fields.specs.declared.Sheet.{Sheet}
 use Rattle.fields.specs.declared.Head.{Head}
 use Rattle.fields.specs.Fields.{sheetIn, headIn, simpleIn, stepsIn}
-use Rattle.fields.specs.Tests.{inRange, headListed, exceeding, anyLate, simpleLate}
-use Rattle.fields.proofs.TestLaws.{late-ordered, simple-ordered, within-totals, all-within, range-few, listed-row}
+use Rattle.fields.specs.Tests.{inRange, headListed}
+use Rattle.limits.specs.Limits.{exceeding, anyLate, simpleLate}
+use Rattle.fields.proofs.TestLaws.{range-few, listed-row}
+use Rattle.limits.proofs.LimitLaws.{late-ordered, simple-ordered, within-totals, all-within}
 use Rattle.record.specs.declared.Verdict.{Verdict}
 use Rattle.record.specs.Rules.{rules, rulesAt, byKind, kindNotTaken}
 use Rattle.record.specs.Verdict.{Fair, refusedWith, sheetVerdict, eventVerdict, acceptedAt, recordAnswer, verdictOf}

@@ -16,7 +16,7 @@ use Rattle.annex.specs.Times.{isShort, minutesIn}
 use Rattle.fields.specs.declared.Sheet.{Sheet}
 use Rattle.fields.specs.declared.Head.{Head}
 use Rattle.fields.specs.Fields.{headIn, simpleIn, stepsIn}
-use Rattle.fields.specs.Tests.{simpleLate, anyLate}
+use Rattle.limits.specs.Limits.{simpleLate, anyLate}
 use Rattle.record.specs.declared.Verdict.{Verdict}
 use Rattle.record.specs.Rules.{byKind, rules, rulesAt, firstOf, lengthWrong, sheetMissingOrSecond, notListed, timeWrong, countTooLarge, countTooHigh, someAfterNone, alreadyMarked, ledgerFull}
 use Rattle.record.specs.Verdict.{refusedWith, eventVerdict, acceptedAt, answerAt, verdictAt, recordAnswer, verdictOf}

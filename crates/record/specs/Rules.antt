@@ -14,7 +14,8 @@ use Rattle.annex.specs.Times.{minutesIn}
 use Rattle.marks.specs.Marks.{marked}
 use Rattle.fields.specs.declared.Sheet.{Sheet}
 use Rattle.fields.specs.Fields.{sheetIn, headIn, simpleIn, stepsIn, stepCount}
-use Rattle.fields.specs.Tests.{inRange, headListed, exceeding, aboveLevel, anyLate, simpleLate, noneThenSome}
+use Rattle.fields.specs.Tests.{inRange, headListed}
+use Rattle.limits.specs.Limits.{exceeding, aboveLevel, anyLate, simpleLate, noneThenSome}
 
 -- what is asked of a year sheet (kind 1), of a simple event (2) and of a stepped event (3); nothing is asked of another kind
 abbrev pub byKind : ℕ → Bool → Bool → Bool → Bool

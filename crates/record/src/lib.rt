@@ -137,16 +137,16 @@ fn judge_simple(bytes: &[u8], sheet: Sheet, map: &[u8], events: u16) -> Verdict
     let a = e.n1;
     let b = e.n2;
     let rest = first_of_four(
-        fields::is_above(a, level) | fields::is_above(b, level),
-        fields::is_none_then_some(e),
+        limits::is_above(a, level) | limits::is_above(b, level),
+        limits::is_none_then_some(e),
         marks::is_marked(map, head.number),
         65535 <= events,
     );
     let answer = first_of(
         !sheet.there,
         !head.listed(),
-        (annex::minutes_in(sheet.year) <= head.t0) | fields::is_simple_late(e, head.typ),
-        fields::exceeds(a, n) | fields::exceeds(b, n),
+        (annex::minutes_in(sheet.year) <= head.t0) | limits::is_simple_late(e, head.typ),
+        limits::exceeds(a, n) | limits::exceeds(b, n),
         rest,
     );
     if answer != 0 {
@@ -170,7 +170,7 @@ fn judge_stepped(bytes: &[u8], sheet: Sheet, map: &[u8], events: u16) -> Verdict
     let w = walk::walk_of(bytes, steps, head.t0);
     let f = w.figures;
     let rest = first_of_four(
-        fields::figures_above(f, level),
+        limits::figures_above(f, level),
         false,
         marks::is_marked(map, head.number),
         65535 <= events,
@@ -179,7 +179,7 @@ fn judge_stepped(bytes: &[u8], sheet: Sheet, map: &[u8], events: u16) -> Verdict
         !sheet.there,
         !head.listed(),
         (annex::minutes_in(sheet.year) <= head.t0) | w.late,
-        fields::figures_exceed(f, n),
+        limits::figures_exceed(f, n),
         rest,
     );
     if answer != 0 {

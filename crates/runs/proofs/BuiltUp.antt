@@ -15,7 +15,8 @@ use Rattle.wire.specs.Frame.{framed, kindOf}
 use Rattle.annex.specs.Times.{minutesIn}
 use Rattle.marks.specs.Marks.{marked, markedWith}
 use Rattle.fields.specs.Fields.{headIn, stepsFrom, stepsIn, stepCount}
-use Rattle.fields.specs.Tests.{headListed, anyLate}
+use Rattle.fields.specs.Tests.{headListed}
+use Rattle.limits.specs.Limits.{anyLate}
 use Rattle.record.specs.Rules.{rulesAt}
 use Rattle.record.specs.Verdict.{acceptedAt}
 use Rattle.ledger.specs.declared.Ledger.{Ledger}

@@ -16,7 +16,8 @@ use Rattle.annex.specs.Times.{minutesIn}
 use Rattle.marks.specs.Marks.{marked, markedWith}
 use Rattle.fields.specs.declared.Head.{Head}
 use Rattle.fields.specs.Fields.{headIn}
-use Rattle.fields.specs.Tests.{headListed, exceeding, aboveLevel, lateStep, anyLate}
+use Rattle.fields.specs.Tests.{headListed}
+use Rattle.limits.specs.Limits.{exceeding, aboveLevel, lateStep, anyLate}
 use Rattle.fields.proofs.TestLaws.{listed-number}
 use Rattle.record.specs.Verdict.{eventVerdict}
 use Rattle.ledger.specs.declared.Ledger.{Ledger}

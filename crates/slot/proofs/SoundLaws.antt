@@ -14,7 +14,8 @@ use Rattle.codes.specs.Codes.{levelOf}
 use Rattle.annex.specs.Figures.{customersAt, halvesAt, Room}
 use Rattle.annex.specs.Bounds.{Within}
 use Rattle.annex.proofs.FoldLaws.{each-level}
-use Rattle.fields.specs.Tests.{headListed, figuresAbove}
+use Rattle.fields.specs.Tests.{headListed}
+use Rattle.limits.specs.Limits.{figuresAbove}
 use Rattle.slot.specs.declared.Slot.{Slot}
 use Rattle.slot.specs.Slot.{freeSlot}
 use Rattle.slot.specs.Sound.{noCustomers, noHalves, isFree, levelWithin, openSound, slotSound}

@@ -7,7 +7,8 @@ use lib.Dec.{leb, ltb, eqb}
 use Rattle.codes.specs.Codes.{levelOf}
 use Rattle.annex.specs.declared.Figures.{Figures}
 use Rattle.annex.specs.Figures.{customersAt, halvesAt}
-use Rattle.fields.specs.Tests.{headListed, figuresAbove}
+use Rattle.fields.specs.Tests.{headListed}
+use Rattle.limits.specs.Limits.{figuresAbove}
 use Rattle.slot.specs.declared.Slot.{Slot}
 
 abbrev pub noCustomers : Figures → Bool

@@ -136,7 +136,7 @@ impl Slot {
             & level_within(c[0], h[0], minutes)
             & level_within(c[1], h[1], minutes)
             & level_within(c[2], h[2], minutes)
-            & !fields::figures_above(f, codes::level_of(head.voltage))
+            & !limits::figures_above(f, codes::level_of(head.voltage))
             & ((0 < self.steps) | ((self.last == head.t0) & no_customers(f)))
     }
 

@@ -20,8 +20,8 @@ use Rattle.annex.specs.Bounds.{Few, Timely}
 use Rattle.annex.proofs.Bounds.{timely-nothing, timely-step}
 use Rattle.walk.specs.declared.Walk.{Walk}
 use Rattle.fields.specs.Fields.{stepAt, stepsFrom}
-use Rattle.fields.specs.Tests.{lateStep, anyLate, exceeding, aboveLevel, exceedingFigures, figuresAbove}
-use Rattle.fields.proofs.TestLaws.{in-time}
+use Rattle.limits.specs.Limits.{lateStep, anyLate, exceeding, aboveLevel, exceedingFigures, figuresAbove}
+use Rattle.limits.proofs.LimitLaws.{in-time}
 use Rattle.walk.specs.Walk.{begun, walkedStep, walked}
 
 pub late-from : (w : Walk) (ss : List Step) → walked w ss .late ≡ (w .late || anyLate (w .last) ss)

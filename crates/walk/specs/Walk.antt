@@ -5,7 +5,7 @@ use mathlib.Core.Bool.{Bool, false, _||_, cond}
 use Rattle.annex.specs.declared.Step.{Step}
 use Rattle.annex.specs.Figures.{nothing, withStep}
 use Rattle.walk.specs.declared.Walk.{Walk}
-use Rattle.fields.specs.Tests.{lateStep}
+use Rattle.limits.specs.Limits.{lateStep}
 
 abbrev pub begun : ℕ → Walk
 begun t0 = record { late = false; last = t0; figures = nothing }

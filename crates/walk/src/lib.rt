@@ -33,7 +33,7 @@ impl Walk {
         ensures { λ r. ⌜ r ≡ walkedStep self step ⌝ }
     {
         let n = step.counts;
-        let late = self.late | fields::is_late(step.time, self.last);
+        let late = self.late | limits::is_late(step.time, self.last);
         if late {
             return Walk {
                 late: true,

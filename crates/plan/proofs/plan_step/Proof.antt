@@ -6,7 +6,7 @@ use mathlib.Core.Bool.{_||_, not, cond}
 use lib.Dec.{leb, ltb, eqb}
 use borrow.Author.Tests.{eq-eqb, ne-eqb, eqb-false}
 use Rattle.annex.specs.declared.Step.{Step}
-use Rattle.fields.specs.Tests.{exceeding, aboveLevel, lateStep}
+use Rattle.limits.specs.Limits.{exceeding, aboveLevel, lateStep}
 use Rattle.slot.specs.Slot.{steppedBy}
 use Rattle.slot.proofs.SoundLaws.{sound-room, sound-steps}
 use Rattle.plan.specs.Rules.{lookBy, stepIn}

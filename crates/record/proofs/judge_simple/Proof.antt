@@ -9,8 +9,9 @@ use Rattle.annex.specs.Simple.{simpleFigures, InOrder}
 use Rattle.marks.specs.Marks.{marked}
 use Rattle.fields.specs.declared.Head.{Head}
 use Rattle.fields.specs.Fields.{headIn, simpleIn}
-use Rattle.fields.specs.Tests.{headListed, exceeding, aboveLevel, simpleLate, noneThenSome}
-use Rattle.fields.proofs.TestLaws.{simple-ordered}
+use Rattle.fields.specs.Tests.{headListed}
+use Rattle.limits.specs.Limits.{exceeding, aboveLevel, simpleLate, noneThenSome}
+use Rattle.limits.proofs.LimitLaws.{simple-ordered}
 use Rattle.record.specs.Rules.{firstOf}
 use Rattle.record.specs.Verdict.{refusedWith, eventVerdict, answerAt}
 use Rattle.record.proofs.JudgeLaws.{refused-by, at-refused, at-accepted, simple-answer, simple-timely}

@@ -15,7 +15,8 @@ use Rattle.marks.specs.Marks.{marked}
 use Rattle.fields.specs.declared.Head.{Head}
 use Rattle.walk.specs.declared.Walk.{Walk}
 use Rattle.fields.specs.Fields.{headIn, stepsFrom, stepsIn}
-use Rattle.fields.specs.Tests.{headListed, anyLate, exceedingFigures, figuresAbove}
+use Rattle.fields.specs.Tests.{headListed}
+use Rattle.limits.specs.Limits.{anyLate, exceedingFigures, figuresAbove}
 use Rattle.walk.specs.Walk.{begun, walked}
 use Rattle.walk.proofs.WalkLaws.{walked-late, walked-last, walked-figures, exceed-by-largest, above-by-largest}
 use Rattle.record.specs.Rules.{firstOf, lengthWrong, countTooLarge, countTooHigh, alreadyMarked, ledgerFull}

@@ -3,7 +3,7 @@ use mathlib.Core.Path.{_≡_, _∙_}
 use mathlib.Core.Bool.{_&&_, _||_, not}
 use lib.Dec.{leb, ltb, eqb}
 use Rattle.annex.specs.Figures.{customersAt, halvesAt}
-use Rattle.fields.specs.Tests.{figuresAbove}
+use Rattle.limits.specs.Limits.{figuresAbove}
 use Rattle.slot.specs.Sound.{levelWithin, openSound}
 use borrow.Author.Needs.{needs}
 use Rattle.slot.proofs.Slot.open_sound.Statement.{statement}

@@ -5,9 +5,9 @@ use mathlib.Core.Bool.{true, false, _||_}
 use native.Mathlib.Omega.{arith}
 use Rattle.base.proofs.TestLaws.{or-right}
 use Rattle.annex.proofs.Bounds.{timely-room}
-use Rattle.fields.specs.Tests.{lateStep}
+use Rattle.limits.specs.Limits.{lateStep}
 use Rattle.walk.specs.Walk.{walkedStep}
-use Rattle.fields.proofs.TestLaws.{in-time}
+use Rattle.limits.proofs.LimitLaws.{in-time}
 use Rattle.walk.proofs.WalkLaws.{step-late, step-timed}
 use borrow.Author.Needs.{needs}
 use Rattle.walk.proofs.Walk.with.Statement.{statement}
