@@ -23,9 +23,10 @@ use Rattle.fields.specs.declared.Sheet.{Sheet}
 use Rattle.fields.specs.declared.Head.{Head}
 use Rattle.fields.specs.Fields.{sheetIn, headIn, simpleIn, stepsIn}
 use Rattle.fields.specs.Tests.{headListed}
-use Rattle.record.specs.declared.Verdict.{Verdict}
+use Rattle.verdict.specs.declared.Verdict.{Verdict}
+use Rattle.verdict.specs.Verdict.{sheetVerdict, eventVerdict}
 use Rattle.record.specs.Rules.{byKind}
-use Rattle.record.specs.Verdict.{sheetVerdict, eventVerdict, acceptedAt}
+use Rattle.record.specs.Verdict.{acceptedAt}
 use Rattle.ledger.specs.declared.Cell.{Cell}
 use Rattle.ledger.specs.declared.Ledger.{Ledger}
 use Rattle.ledger.specs.Ledger.{emptyLedger, noCell, cellOf, added}

@@ -14,8 +14,8 @@ use Rattle.wire.specs.Cut.{recordsOf, recordsFrom, stopFrom, endsBy}
 use Rattle.wire.proofs.CutLaws.{records-is, passed, halted, starts-there, few-records}
 use Rattle.marks.specs.Marks.{markedWith}
 use Rattle.marks.proofs.MarkLaws.{markedWith-size}
+use Rattle.verdict.specs.declared.Verdict.{Verdict}
 use Rattle.record.specs.Verdict.{verdictOf}
-use Rattle.record.specs.declared.Verdict.{Verdict}
 use Rattle.record.proofs.JudgeLaws.{verdict-answer}
 use Rattle.ledger.specs.declared.Ledger.{Ledger}
 use Rattle.ledger.specs.Ledger.{added}

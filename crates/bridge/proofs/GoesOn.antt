@@ -18,8 +18,9 @@ use Rattle.annex.specs.Stepped.{lastTime, steppedFigures}
 use Rattle.fields.specs.Fields.{sheetIn, headIn, simpleIn, stepsIn}
 use Rattle.fields.specs.declared.Sheet.{Sheet}
 use Rattle.fields.specs.Tests.{inRange}
-use Rattle.record.specs.declared.Verdict.{Verdict}
-use Rattle.record.specs.Verdict.{sheetVerdict, eventVerdict, acceptedAt, verdictOf}
+use Rattle.verdict.specs.declared.Verdict.{Verdict}
+use Rattle.verdict.specs.Verdict.{sheetVerdict, eventVerdict}
+use Rattle.record.specs.Verdict.{acceptedAt, verdictOf}
 use Rattle.ledger.specs.declared.Ledger.{Ledger}
 use Rattle.ledger.specs.Ledger.{emptyLedger, added}
 use Rattle.ledger.specs.Sound.{soundLedger}

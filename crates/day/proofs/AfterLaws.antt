@@ -14,9 +14,10 @@ use Rattle.marks.specs.Marks.{marked, markedWith}
 use Rattle.marks.proofs.MarkLaws.{markedWith-zero}
 use Rattle.fields.specs.Fields.{headIn}
 use Rattle.fields.specs.Tests.{headListed}
-use Rattle.record.specs.declared.Verdict.{Verdict}
+use Rattle.verdict.specs.declared.Verdict.{Verdict}
+use Rattle.verdict.specs.Verdict.{eventVerdict}
 use Rattle.record.specs.Rules.{rulesAt, notListed, alreadyMarked}
-use Rattle.record.specs.Verdict.{eventVerdict, acceptedAt}
+use Rattle.record.specs.Verdict.{acceptedAt}
 use Rattle.record.proofs.JudgeLaws.{accepted-clear}
 use Rattle.record.proofs.FairLaws.{kind-taken}
 use Rattle.ledger.specs.declared.Ledger.{Ledger}

@@ -27,9 +27,10 @@ use Rattle.fields.specs.declared.Sheet.{Sheet}
 use Rattle.fields.specs.Fields.{headIn, stepAt, stepsFrom, stepCount, stepsIn}
 use Rattle.fields.specs.Tests.{headListed}
 use Rattle.limits.specs.Limits.{exceeding, aboveLevel, anyLate}
-use Rattle.record.specs.declared.Verdict.{Verdict}
+use Rattle.verdict.specs.declared.Verdict.{Verdict}
+use Rattle.verdict.specs.Verdict.{eventVerdict}
 use Rattle.record.specs.Rules.{lengthWrong, notListed, timeWrong, countTooLarge, countTooHigh, alreadyMarked, ledgerFull}
-use Rattle.record.specs.Verdict.{eventVerdict, verdictOf}
+use Rattle.record.specs.Verdict.{verdictOf}
 use Rattle.ledger.specs.declared.Ledger.{Ledger}
 use Rattle.ledger.specs.Ledger.{added}
 use Rattle.ledger.specs.Take.{unsound, takeRules, answerOf}

@@ -14,9 +14,10 @@ use Rattle.wire.specs.Frame.{kindOf}
 use Rattle.marks.specs.Marks.{marked, markedWith, mapSize}
 use Rattle.fields.specs.declared.Sheet.{Sheet}
 use Rattle.fields.specs.Fields.{headIn}
-use Rattle.record.specs.declared.Verdict.{Verdict}
+use Rattle.verdict.specs.declared.Verdict.{Verdict}
+use Rattle.verdict.specs.Verdict.{eventVerdict}
 use Rattle.record.specs.Rules.{kindNotTaken, sheetMissingOrSecond, alreadyMarked}
-use Rattle.record.specs.Verdict.{acceptedAt, eventVerdict}
+use Rattle.record.specs.Verdict.{acceptedAt}
 use Rattle.ledger.specs.declared.Ledger.{Ledger}
 use Rattle.ledger.specs.Ledger.{added}
 use Rattle.ledger.specs.Sound.{soundLedger}

@@ -17,7 +17,7 @@ use Rattle.fields.specs.declared.Sheet.{Sheet}
 use Rattle.limits.specs.Limits.{lateStep, exceeding, aboveLevel}
 use Rattle.fields.proofs.TestLaws.{listed-number}
 use Rattle.codes.specs.Codes.{levelOf}
-use Rattle.record.specs.Verdict.{eventVerdict}
+use Rattle.verdict.specs.Verdict.{eventVerdict}
 use Rattle.ledger.specs.declared.Ledger.{Ledger}
 use Rattle.ledger.specs.Ledger.{added}
 use Rattle.ledger.specs.Sound.{soundLedger}

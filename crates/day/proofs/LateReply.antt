@@ -15,7 +15,7 @@ use Rattle.base.proofs.TestLaws.{or-both}
 use Rattle.wire.specs.Frame.{framed, kindOf}
 use Rattle.marks.specs.Marks.{marked}
 use Rattle.fields.specs.Fields.{headIn}
-use Rattle.record.specs.Verdict.{eventVerdict}
+use Rattle.verdict.specs.Verdict.{eventVerdict}
 use Rattle.ledger.specs.Ledger.{added}
 use Rattle.ledger.specs.Take.{unsound, answerOf}
 use Rattle.slot.specs.Slot.{freeSlot, openedBy, steppedBy}

@@ -10,7 +10,8 @@ use Rattle.codes.specs.Codes.{rowOf, levelOf, causes, causeListed}
 use Rattle.annex.specs.Figures.{customers, halfMinutes, withStep}
 use Rattle.annex.specs.Times.{minutesIn, isShort}
 use Rattle.marks.specs.Marks.{marked, marking, markedWith}
-use Rattle.record.specs.Verdict.{eventVerdict, recordAnswer, verdictOf}
+use Rattle.verdict.specs.Verdict.{eventVerdict}
+use Rattle.record.specs.Verdict.{recordAnswer, verdictOf}
 use Rattle.ledger.specs.declared.Ledger.{Ledger}
 use Rattle.ledger.specs.Ledger.{noCell, added}
 use Rattle.ledger.specs.Sound.{soundLedger}

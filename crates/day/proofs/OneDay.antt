@@ -14,7 +14,8 @@ use Rattle.annex.specs.Times.{minutesIn, isShort}
 use Rattle.annex.specs.Figures.{withStep}
 use Rattle.annex.specs.Simple.{simpleFigures}
 use Rattle.marks.specs.Marks.{marked, marking, markedWith}
-use Rattle.record.specs.Verdict.{eventVerdict, recordAnswer, verdictOf}
+use Rattle.verdict.specs.Verdict.{eventVerdict}
+use Rattle.record.specs.Verdict.{recordAnswer, verdictOf}
 use Rattle.ledger.specs.declared.Ledger.{Ledger}
 use Rattle.ledger.specs.Ledger.{emptyLedger, cellOf, added}
 use Rattle.ledger.specs.Sound.{soundLedger}

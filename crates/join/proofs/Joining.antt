@@ -17,7 +17,7 @@ use Rattle.wire.specs.Cut.{cutIn, recordsOf, joined}
 use Rattle.marks.specs.Marks.{marked}
 use Rattle.fields.specs.declared.Sheet.{Sheet}
 use Rattle.fields.specs.Fields.{sheetIn}
-use Rattle.record.specs.Verdict.{eventVerdict}
+use Rattle.verdict.specs.Verdict.{eventVerdict}
 use Rattle.ledger.specs.declared.Ledger.{Ledger}
 use Rattle.ledger.specs.Ledger.{emptyLedger, cellOf, added}
 use Rattle.book.specs.Book.{State, starting, takeAll, afterBook}

@@ -20,8 +20,8 @@ use Rattle.annex.specs.Figures.{customers, halfMinutes, nothing, customersAt, h
 use Rattle.annex.proofs.FoldLaws.{each-level}
 use Rattle.fields.specs.declared.Sheet.{Sheet}
 use Rattle.fields.specs.Tests.{inRange}
-use Rattle.record.specs.declared.Verdict.{Verdict}
-use Rattle.record.specs.Verdict.{refusedWith, sheetVerdict}
+use Rattle.verdict.specs.declared.Verdict.{Verdict}
+use Rattle.verdict.specs.Verdict.{refusedWith, sheetVerdict}
 use Rattle.ledger.specs.declared.Cell.{Cell}
 use Rattle.ledger.specs.declared.Ledger.{Ledger}
 use Rattle.ledger.specs.Ledger.{noCell, grownBy, grownRow, added}

@@ -12,9 +12,10 @@ use Rattle.base.proofs.TestLaws.{Tested, holds, fails, test}
 use Rattle.wire.specs.Frame.{kindOf}
 use Rattle.marks.specs.Marks.{markedWith}
 use Rattle.marks.proofs.MarkLaws.{markedWith-zero, markedWith-size}
-use Rattle.record.specs.declared.Verdict.{Verdict}
+use Rattle.verdict.specs.declared.Verdict.{Verdict}
+use Rattle.verdict.specs.Verdict.{refusedWith}
 use Rattle.record.specs.Rules.{rules}
-use Rattle.record.specs.Verdict.{recordAnswer, verdictOf, acceptedAt, refusedWith}
+use Rattle.record.specs.Verdict.{recordAnswer, verdictOf, acceptedAt}
 use Rattle.record.proofs.JudgeLaws.{verdict-refused, verdict-accepted}
 use Rattle.ledger.specs.declared.Ledger.{Ledger}
 use Rattle.ledger.specs.Ledger.{added}

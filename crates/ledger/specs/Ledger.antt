@@ -9,7 +9,7 @@ use Rattle.annex.specs.declared.HalfMinutes.{HalfMinutes}
 use Rattle.annex.specs.declared.Figures.{Figures}
 use Rattle.annex.specs.Figures.{customers, halfMinutes}
 use Rattle.fields.specs.Fields.{noSheet}
-use Rattle.record.specs.declared.Verdict.{Verdict}
+use Rattle.verdict.specs.declared.Verdict.{Verdict}
 use Rattle.ledger.specs.declared.Cell.{Cell}
 use Rattle.ledger.specs.declared.Ledger.{Ledger}
 

@@ -9,7 +9,7 @@ use lib.Dec.{leb, eqb}
 use Rattle.base.specs.Lists.{every}
 use Rattle.fields.specs.declared.Sheet.{Sheet}
 use Rattle.fields.specs.Tests.{inRange}
-use Rattle.record.specs.declared.Verdict.{Verdict}
+use Rattle.verdict.specs.declared.Verdict.{Verdict}
 use Rattle.record.specs.Verdict.{Fair}
 use Rattle.ledger.specs.declared.Cell.{Cell}
 use Rattle.ledger.specs.declared.Ledger.{Ledger}

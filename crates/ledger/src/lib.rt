@@ -10,7 +10,7 @@ ghost use Rattle.ledger.specs.Take.{takenOf, mapAfter};
 use annex::Customers;
 use annex::HalfMinutes;
 use fields::Sheet;
-use record::Verdict;
+use verdict::Verdict;
 
 // How many bytes a map of used numbers has.
 pub const MAP: usize = 8192;

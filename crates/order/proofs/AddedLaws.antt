@@ -11,7 +11,7 @@ use Rattle.annex.specs.declared.Customers.{Customers}
 use Rattle.annex.specs.declared.HalfMinutes.{HalfMinutes}
 use Rattle.annex.specs.declared.Figures.{Figures}
 use Rattle.annex.specs.Figures.{customers, halfMinutes}
-use Rattle.record.specs.declared.Verdict.{Verdict}
+use Rattle.verdict.specs.declared.Verdict.{Verdict}
 use Rattle.ledger.specs.declared.Cell.{Cell}
 use Rattle.ledger.specs.declared.Ledger.{Ledger}
 use Rattle.ledger.specs.Ledger.{noCell, grownBy, grownRow, added}

@@ -20,9 +20,10 @@ use Rattle.marks.proofs.MarkLaws.{markedWith-same, markedWith-other, markedWith
 use Rattle.fields.specs.declared.Sheet.{Sheet}
 use Rattle.fields.specs.Fields.{headIn}
 use Rattle.fields.specs.Tests.{headListed}
-use Rattle.record.specs.declared.Verdict.{Verdict}
+use Rattle.verdict.specs.declared.Verdict.{Verdict}
+use Rattle.verdict.specs.Verdict.{eventVerdict}
 use Rattle.record.specs.Rules.{rules, byKind, alreadyMarked, ledgerFull}
-use Rattle.record.specs.Verdict.{eventVerdict, acceptedAt, recordAnswer}
+use Rattle.record.specs.Verdict.{acceptedAt, recordAnswer}
 use Rattle.record.proofs.JudgeLaws.{accepted-clear}
 use Rattle.record.proofs.FairLaws.{kind-taken}
 use Rattle.ledger.specs.declared.Ledger.{Ledger}

@@ -8,7 +8,7 @@ use Rattle.wire.specs.Cut.{cutIn, recordsOf, joined}
 use Rattle.marks.proofs.MarkLaws.{markedWith-comm}
 use Rattle.fields.specs.declared.Sheet.{Sheet}
 use Rattle.fields.specs.Fields.{sheetIn}
-use Rattle.record.specs.Verdict.{eventVerdict}
+use Rattle.verdict.specs.Verdict.{eventVerdict}
 use Rattle.ledger.specs.declared.Ledger.{Ledger}
 use Rattle.ledger.specs.Ledger.{emptyLedger}
 use Rattle.book.specs.Book.{State, starting, takeAll}

@@ -20,7 +20,7 @@ use Rattle.wire.proofs.CutLaws.{Framed, Stopped, records-stop, records-whole, c
 use Rattle.marks.specs.Marks.{markedWith}
 use Rattle.marks.proofs.MarkLaws.{markedWith-zero}
 use Rattle.fields.specs.Fields.{sheetIn, noSheet}
-use Rattle.record.specs.declared.Verdict.{Verdict}
+use Rattle.verdict.specs.declared.Verdict.{Verdict}
 use Rattle.record.specs.Rules.{byKind, rules, rulesAt, unframed, lengthWrong, sheetOutOfRange}
 use Rattle.record.specs.Verdict.{acceptedAt, recordAnswer}
 use Rattle.record.proofs.JudgeLaws.{accepted-clear}

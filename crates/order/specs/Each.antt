@@ -12,9 +12,9 @@ use Rattle.annex.specs.Annex.{endOf, figuresOf}
 use Rattle.marks.specs.Marks.{marked, markedWith}
 use Rattle.fields.specs.declared.Sheet.{Sheet}
 use Rattle.fields.specs.Fields.{sheetIn, headIn}
-use Rattle.record.specs.declared.Verdict.{Verdict}
+use Rattle.verdict.specs.declared.Verdict.{Verdict}
+use Rattle.verdict.specs.Verdict.{eventVerdict}
 use Rattle.record.specs.Rules.{unframed, kindNotTaken, lengthWrong, sheetMissingOrSecond, sheetOutOfRange, notListed, timeWrong, countTooLarge, countTooHigh, someAfterNone}
-use Rattle.record.specs.Verdict.{eventVerdict}
 use Rattle.ledger.specs.declared.Ledger.{Ledger}
 use Rattle.ledger.specs.Ledger.{emptyLedger, added}
 use Rattle.book.specs.Accepted.{zeroMap, eventIn}

@@ -14,7 +14,7 @@ use Rattle.fields.specs.declared.Sheet.{Sheet}
 use Rattle.fields.specs.declared.Head.{Head}
 use Rattle.fields.proofs.TestLaws.{listed-row}
 use Rattle.limits.proofs.LimitLaws.{in-time}
-use Rattle.record.specs.Verdict.{eventVerdict}
+use Rattle.verdict.specs.Verdict.{eventVerdict}
 use Rattle.record.proofs.FairLaws.{event-fair}
 use Rattle.ledger.specs.declared.Ledger.{Ledger}
 use Rattle.ledger.specs.Sound.{soundLedger, Fits}

@@ -6,7 +6,7 @@ use lib.Dec.{eqb}
 use Rattle.base.specs.First.{first}
 use Rattle.wire.specs.Frame.{kindOf}
 use Rattle.fields.specs.Fields.{headIn}
-use Rattle.record.specs.Verdict.{eventVerdict}
+use Rattle.verdict.specs.Verdict.{eventVerdict}
 use Rattle.ledger.specs.declared.Ledger.{Ledger}
 use Rattle.ledger.specs.Ledger.{added}
 use Rattle.slot.specs.declared.Slot.{Slot}

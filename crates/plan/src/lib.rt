@@ -187,7 +187,7 @@ fn plan_close(
     if answer != 0 {
         return refuse(ledger, slots, answer);
     }
-    let taken = ledger.add(record::accept(sheet, head, slot.last, figures));
+    let taken = ledger.add(verdict::accept(sheet, head, slot.last, figures));
     let freed = Slot::free();
     Plan {
         taken,

@@ -27,9 +27,10 @@ use Rattle.fields.specs.Tests.{inRange, headListed}
 use Rattle.limits.specs.Limits.{exceeding, anyLate, simpleLate}
 use Rattle.fields.proofs.TestLaws.{range-few, listed-row}
 use Rattle.limits.proofs.LimitLaws.{late-ordered, simple-ordered, within-totals, all-within}
-use Rattle.record.specs.declared.Verdict.{Verdict}
+use Rattle.verdict.specs.declared.Verdict.{Verdict}
+use Rattle.verdict.specs.Verdict.{refusedWith, sheetVerdict, eventVerdict}
 use Rattle.record.specs.Rules.{rules, rulesAt, byKind, kindNotTaken}
-use Rattle.record.specs.Verdict.{Fair, refusedWith, sheetVerdict, eventVerdict, acceptedAt, recordAnswer, verdictOf}
+use Rattle.record.specs.Verdict.{Fair, acceptedAt, recordAnswer, verdictOf}
 use Rattle.record.proofs.JudgeLaws.{verdict-refused, verdict-accepted, accepted-clear}
 
 -- the kinds that are taken

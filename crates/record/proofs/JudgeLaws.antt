@@ -9,17 +9,14 @@ use Rattle.base.specs.First.{first, Clear, Foremost}
 use Rattle.base.proofs.FirstLaws.{clear, unclear, then}
 use Rattle.base.proofs.TestLaws.{Tested, holds, fails, test, or-right}
 use Rattle.wire.specs.Frame.{framed, kindOf}
-use Rattle.codes.specs.Codes.{rowOf}
-use Rattle.annex.specs.declared.Figures.{Figures}
-use Rattle.annex.specs.Figures.{nothing}
-use Rattle.annex.specs.Times.{isShort, minutesIn}
+use Rattle.annex.specs.Times.{minutesIn}
 use Rattle.fields.specs.declared.Sheet.{Sheet}
-use Rattle.fields.specs.declared.Head.{Head}
 use Rattle.fields.specs.Fields.{headIn, simpleIn, stepsIn}
 use Rattle.limits.specs.Limits.{simpleLate, anyLate}
-use Rattle.record.specs.declared.Verdict.{Verdict}
+use Rattle.verdict.specs.declared.Verdict.{Verdict}
+use Rattle.verdict.specs.Verdict.{refusedWith, eventVerdict}
 use Rattle.record.specs.Rules.{byKind, rules, rulesAt, firstOf, lengthWrong, sheetMissingOrSecond, notListed, timeWrong, countTooLarge, countTooHigh, someAfterNone, alreadyMarked, ledgerFull}
-use Rattle.record.specs.Verdict.{refusedWith, eventVerdict, acceptedAt, answerAt, verdictAt, recordAnswer, verdictOf}
+use Rattle.record.specs.Verdict.{acceptedAt, answerAt, verdictAt, recordAnswer, verdictOf}
 
 module _ (kind : ℕ) (s : List ℕ) (sheet : Sheet) (m : List ℕ) (events : ℕ) where
   pub at-refused : (n : ℕ) → answerAt kind s sheet m events ≡ n → (n ≡ 0 → ⊥) → verdictAt kind s sheet m events ≡ refusedWith sheet n
@@ -107,20 +104,6 @@ module _ (s : List ℕ) (sheet : Sheet) (m : List ℕ) (events : ℕ) where
       (cond (countTooHigh 3 s) 12 (cond (alreadyMarked 3 s m) 14 (cond (ledgerFull 3 events) 15 0)))
   unfolding answerAt
   stepped-answer e = rw e
-
--- an event's verdict, short or not
-module _ (sheet : Sheet) (h : Head) (end : ℕ) (f : Figures) where
-  pub event-short :
-      isShort (h .t0) end ≡ true →
-      eventVerdict sheet h end f ≡ record { answer = 0; sheet = sheet; number = h .number; events = 1; short = 1; row = rowOf (h .typ); figures = nothing }
-  unfolding eventVerdict
-  event-short e = rw e
-
-  pub event-counted :
-      isShort (h .t0) end ≡ false →
-      eventVerdict sheet h end f ≡ record { answer = 0; sheet = sheet; number = h .number; events = 1; short = 0; row = rowOf (h .typ); figures = f }
-  unfolding eventVerdict
-  event-counted e = rw e
 
 -- nothing is asked of a kind that is none of the three
 pub no-kind : (kind : ℕ) → (kind ≡ 1 → ⊥) → (kind ≡ 2 → ⊥) → (kind ≡ 3 → ⊥) → byKind kind true true true ≡ false

@@ -1,18 +1,8 @@
 -- No second outcome meets what a public function of this crate promises. Assumes nothing.
 use mathlib.Core.Path.{refl}
 use Rattle.base.proofs.OneOutcome.{OneOutcome, alike}
-use Rattle.record.proofs.refuse.Kinds as refuse-kinds
-use Rattle.record.proofs.refuse.Reads as refuse
-use Rattle.record.proofs.accept.Kinds as accept-kinds
-use Rattle.record.proofs.accept.Reads as accept
 use Rattle.record.proofs.judge.Kinds as judge-kinds
 use Rattle.record.proofs.judge.Reads as judge
-
-pub refuse-one : OneOutcome refuse-kinds.ps refuse-kinds.r refuse.Post
-refuse-one κs a x y v w p q = (alike p q, refl)
-
-pub accept-one : OneOutcome accept-kinds.ps accept-kinds.r accept.Post
-accept-one κs a x y v w p q = (alike p q, refl)
 
 pub judge-one : OneOutcome judge-kinds.ps judge-kinds.r judge.Post
 judge-one κs a x y v w p q = (alike p q, refl)

@@ -1,45 +1,22 @@
--- What judging a record comes to: the answer, and what an accepted record does to a ledger (01, "What one event adds").
+-- What judging a record comes to, by the rules in their order: the smallest number that applies, and the verdict of that answer.
 use Prim.Native.Nat.{ℕ, _+_, _*_, _<_, _≤_}
 use mathlib.Core.Path.{_≡_}
 use mathlib.Core.Logic.{_⊎_}
 use mathlib.Core.List.{List}
-use mathlib.Core.Bool.{Bool, true, false, not, cond}
+use mathlib.Core.Bool.{true, false, cond}
 use lib.Dec.{eqb}
 use Rattle.base.specs.First.{first}
-use Rattle.wire.specs.Frame.{framed, kindOf}
-use Rattle.codes.specs.Codes.{rowOf, rows}
-use Rattle.annex.specs.declared.Figures.{Figures}
-use Rattle.annex.specs.Figures.{nothing, customersAt, halvesAt}
+use Rattle.wire.specs.Frame.{kindOf}
+use Rattle.codes.specs.Codes.{rows}
+use Rattle.annex.specs.Figures.{customersAt, halvesAt}
 use Rattle.annex.specs.Simple.{simpleFigures}
 use Rattle.annex.specs.Stepped.{lastTime, steppedFigures}
-use Rattle.annex.specs.Times.{isShort}
 use Rattle.fields.specs.declared.Sheet.{Sheet}
-use Rattle.fields.specs.declared.Head.{Head}
 use Rattle.fields.specs.Fields.{sheetIn, headIn, simpleIn, stepsIn}
 use Rattle.fields.specs.Tests.{inRange}
-use Rattle.record.specs.declared.Verdict.{Verdict}
+use Rattle.verdict.specs.declared.Verdict.{Verdict}
+use Rattle.verdict.specs.Verdict.{refusedWith, sheetVerdict, eventVerdict}
 use Rattle.record.specs.Rules.{rulesAt, rules}
-
--- a refused record leaves the sheet, marks no number and adds nothing
-abbrev pub refusedWith : Sheet → ℕ → Verdict
-refusedWith sheet answer = record { answer = answer; sheet = sheet; number = 0; events = 0; short = 0; row = 0; figures = nothing }
-
--- an accepted sheet is the ledger's sheet from then on
-abbrev pub sheetVerdict : Sheet → Verdict
-sheetVerdict next = record { answer = 0; sheet = next; number = 0; events = 0; short = 0; row = 0; figures = nothing }
-
--- an accepted event: "events taken (short ones included)"; a short one "is accepted and counted as short, and adds to no total"
-unfoldable pub eventVerdict : Sheet → Head → ℕ → Figures → Verdict
-eventVerdict sheet h end figures =
-    record {
-      answer = 0;
-      sheet = sheet;
-      number = h .number;
-      events = 1;
-      short = cond (isShort (h .t0) end) 1 0;
-      row = rowOf (h .typ);
-      figures = cond (isShort (h .t0) end) nothing figures;
-    }
 
 -- what an accepted record of each kind comes to
 abbrev pub acceptedAt : ℕ → List ℕ → Sheet → Verdict

@@ -3,63 +3,10 @@ ghost use mathlib.Core.Path.{_≡_};
 ghost use mathlib.Core.Bool.{cond};
 ghost use mathlib.Core.List.{[]};
 ghost use Rattle.record.specs.Rules.{firstOf};
-ghost use Rattle.record.specs.Verdict.{refusedWith, sheetVerdict, eventVerdict, verdictAt, verdictOf};
+ghost use Rattle.record.specs.Verdict.{verdictAt, verdictOf};
 use annex::Figures;
-use fields::Head;
 use fields::Sheet;
-
-// What judging a record comes to: the answer number, and what the record does to a ledger: the sheet after it, the number that it marks (0 for
-// none), the events and short events that it adds, and its figures with their row. A refused record adds nothing.
-pub struct Verdict {
-    pub answer: u8,
-    pub sheet: Sheet,
-    pub number: u16,
-    pub events: u16,
-    pub short: u16,
-    pub row: u8,
-    pub figures: Figures,
-}
-
-// The verdict on a refused record.
-pub fn refuse(sheet: Sheet, answer: u8) -> Verdict
-    ensures { λ r. ⌜ r ≡ refusedWith sheet answer ⌝ }
-{
-    Verdict {
-        answer,
-        sheet,
-        number: 0,
-        events: 0,
-        short: 0,
-        row: 0,
-        figures: Figures::none(),
-    }
-}
-
-// The verdict on an accepted event that ends at a minute, with these figures: a short one adds to no total.
-pub fn accept(sheet: Sheet, head: Head, end: u32, figures: Figures) -> Verdict
-    ensures { λ r. ⌜ r ≡ eventVerdict sheet head end figures ⌝ }
-{
-    if annex::is_short(head.t0, end) {
-        return Verdict {
-            answer: 0,
-            sheet,
-            number: head.number,
-            events: 1,
-            short: 1,
-            row: codes::row_of(head.typ),
-            figures: Figures::none(),
-        };
-    }
-    Verdict {
-        answer: 0,
-        sheet,
-        number: head.number,
-        events: 1,
-        short: 0,
-        row: codes::row_of(head.typ),
-        figures,
-    }
-}
+use verdict::Verdict;
 
 fn first_of_four(c12: bool, c13: bool, c14: bool, c15: bool) -> u8
     ensures { λ r. ⌜ r ≡ cond c12 12 (cond c13 13 (cond c14 14 (cond c15 15 0))) ⌝ }
@@ -103,14 +50,14 @@ fn judge_sheet(bytes: &[u8], sheet: Sheet) -> Verdict
     ensures { λ r. ⌜ r ≡ verdictAt 1 (now (bytes .entry)) sheet [] 0 ⌝ }
 {
     if bytes.len() != 18 {
-        return refuse(sheet, 4);
+        return verdict::refuse(sheet, 4);
     }
     if sheet.there {
-        return refuse(sheet, 5);
+        return verdict::refuse(sheet, 5);
     }
     let next = fields::sheet_of(bytes);
     if !next.in_range() {
-        return refuse(sheet, 6);
+        return verdict::refuse(sheet, 6);
     }
     Verdict {
         answer: 0,
@@ -128,7 +75,7 @@ fn judge_simple(bytes: &[u8], sheet: Sheet, map: &[u8], events: u16) -> Verdict
     ensures { λ r. ⌜ r ≡ verdictAt 2 (now (bytes .entry)) sheet (now (map .entry)) events ⌝ }
 {
     if bytes.len() != 53 {
-        return refuse(sheet, 4);
+        return verdict::refuse(sheet, 4);
     }
     let head = fields::head_of(bytes);
     let e = fields::simple_of(bytes);
@@ -150,9 +97,9 @@ fn judge_simple(bytes: &[u8], sheet: Sheet, map: &[u8], events: u16) -> Verdict
         rest,
     );
     if answer != 0 {
-        return refuse(sheet, answer);
+        return verdict::refuse(sheet, answer);
     }
-    accept(sheet, head, e.t3, e.figures())
+    verdict::accept(sheet, head, e.t3, e.figures())
 }
 
 // A record of kind 3.
@@ -162,7 +109,7 @@ fn judge_stepped(bytes: &[u8], sheet: Sheet, map: &[u8], events: u16) -> Verdict
     let steps = wire::byte_at(bytes, 13);
     let size = 14 + 16 * steps as usize;
     if (bytes.len() < 14) | (steps == 0) | (64 < steps) | (bytes.len() != size) {
-        return refuse(sheet, 4);
+        return verdict::refuse(sheet, 4);
     }
     let head = fields::head_of(bytes);
     let n = sheet.totals;
@@ -183,9 +130,9 @@ fn judge_stepped(bytes: &[u8], sheet: Sheet, map: &[u8], events: u16) -> Verdict
         rest,
     );
     if answer != 0 {
-        return refuse(sheet, answer);
+        return verdict::refuse(sheet, answer);
     }
-    accept(sheet, head, w.last, f)
+    verdict::accept(sheet, head, w.last, f)
 }
 
 // The verdict on a record at the book entry, for a sheet, a map and a number of events in the ledger.
@@ -193,7 +140,7 @@ pub fn judge(bytes: &[u8], sheet: Sheet, map: &[u8], events: u16) -> Verdict
     ensures { λ r. ⌜ r ≡ verdictOf (now (bytes .entry)) sheet (now (map .entry)) events ⌝ }
 {
     if !wire::is_framed(bytes) {
-        return refuse(sheet, 2);
+        return verdict::refuse(sheet, 2);
     }
     let kind = wire::kind_of(bytes);
     if kind == 1 {
@@ -205,5 +152,5 @@ pub fn judge(bytes: &[u8], sheet: Sheet, map: &[u8], events: u16) -> Verdict
     if kind == 3 {
         return judge_stepped(bytes, sheet, map, events);
     }
-    refuse(sheet, 3)
+    verdict::refuse(sheet, 3)
 }

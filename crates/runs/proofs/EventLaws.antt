@@ -19,7 +19,7 @@ use Rattle.fields.specs.Fields.{headIn}
 use Rattle.fields.specs.Tests.{headListed}
 use Rattle.limits.specs.Limits.{exceeding, aboveLevel, lateStep, anyLate}
 use Rattle.fields.proofs.TestLaws.{listed-number}
-use Rattle.record.specs.Verdict.{eventVerdict}
+use Rattle.verdict.specs.Verdict.{eventVerdict}
 use Rattle.ledger.specs.declared.Ledger.{Ledger}
 use Rattle.ledger.specs.Ledger.{added}
 use Rattle.ledger.specs.Take.{unsound}

@@ -14,7 +14,8 @@ use Rattle.annex.specs.Times.{minutesIn, isShort}
 use Rattle.annex.specs.Figures.{withStep}
 use Rattle.annex.specs.Simple.{simpleFigures}
 use Rattle.marks.specs.Marks.{marked, marking, markedWith}
-use Rattle.record.specs.Verdict.{eventVerdict, answerAt, verdictAt, recordAnswer, verdictOf}
+use Rattle.verdict.specs.Verdict.{eventVerdict}
+use Rattle.record.specs.Verdict.{answerAt, verdictAt, recordAnswer, verdictOf}
 use Rattle.ledger.specs.declared.Cell.{Cell}
 use Rattle.ledger.specs.declared.Ledger.{Ledger}
 use Rattle.ledger.specs.Ledger.{emptyLedger, cellOf, added}

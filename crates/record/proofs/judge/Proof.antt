@@ -3,8 +3,9 @@ use mathlib.Core.Path.{_≡_, refl, sym, ap, _∙_}
 use mathlib.Core.Bool.{true, false, not}
 use borrow.Author.Tests.{eqb-false, not-true, not-false}
 use Rattle.wire.specs.Frame.{framed, kindOf}
+use Rattle.verdict.specs.Verdict.{refusedWith}
 use Rattle.record.specs.Rules.{byKind}
-use Rattle.record.specs.Verdict.{refusedWith, recordAnswer, verdictAt}
+use Rattle.record.specs.Verdict.{recordAnswer, verdictAt}
 use Rattle.record.proofs.JudgeLaws.{unframed-is-2, verdict-refused, verdict-by-kind, refused-by, no-kind, sheet-alone}
 use borrow.Author.Needs.{needs}
 use Rattle.record.proofs.judge.Statement.{statement}

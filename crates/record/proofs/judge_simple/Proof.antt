@@ -12,8 +12,9 @@ use Rattle.fields.specs.Fields.{headIn, simpleIn}
 use Rattle.fields.specs.Tests.{headListed}
 use Rattle.limits.specs.Limits.{exceeding, aboveLevel, simpleLate, noneThenSome}
 use Rattle.limits.proofs.LimitLaws.{simple-ordered}
+use Rattle.verdict.specs.Verdict.{refusedWith, eventVerdict}
 use Rattle.record.specs.Rules.{firstOf}
-use Rattle.record.specs.Verdict.{refusedWith, eventVerdict, answerAt}
+use Rattle.record.specs.Verdict.{answerAt}
 use Rattle.record.proofs.JudgeLaws.{refused-by, at-refused, at-accepted, simple-answer, simple-timely}
 use borrow.Author.Needs.{needs}
 use Rattle.record.proofs.judge_simple.Statement.{statement}

@@ -19,8 +19,9 @@ use Rattle.fields.specs.Tests.{headListed}
 use Rattle.limits.specs.Limits.{anyLate, exceedingFigures, figuresAbove}
 use Rattle.walk.specs.Walk.{begun, walked}
 use Rattle.walk.proofs.WalkLaws.{walked-late, walked-last, walked-figures, exceed-by-largest, above-by-largest}
+use Rattle.verdict.specs.Verdict.{refusedWith, eventVerdict}
 use Rattle.record.specs.Rules.{firstOf, lengthWrong, countTooLarge, countTooHigh, alreadyMarked, ledgerFull}
-use Rattle.record.specs.Verdict.{refusedWith, eventVerdict, answerAt}
+use Rattle.record.specs.Verdict.{answerAt}
 use Rattle.record.proofs.JudgeLaws.{refused-by, at-refused, at-accepted, stepped-answer, stepped-timely, ten-hides}
 use borrow.Author.Needs.{needs}
 use Rattle.record.proofs.judge_stepped.Statement.{statement}

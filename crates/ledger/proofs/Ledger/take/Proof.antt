@@ -7,7 +7,7 @@ use lib.Dec.{eqb}
 use borrow.Author.Tests.{eqb-false, not-false}
 use Rattle.base.proofs.TestLaws.{or-right}
 use Rattle.marks.specs.Marks.{markedWith}
-use Rattle.record.specs.declared.Verdict.{Verdict}
+use Rattle.verdict.specs.declared.Verdict.{Verdict}
 use Rattle.record.proofs.JudgeLaws.{verdict-answer}
 use Rattle.ledger.specs.Ledger.{added}
 use Rattle.ledger.specs.Sound.{Fits}

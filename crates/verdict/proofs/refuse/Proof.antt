@@ -1,7 +1,7 @@
 -- The fields are those of `refusedWith`, with the figures that `none` gives. Assumes nothing.
 use borrow.Author.Needs.{needs}
-use Rattle.record.proofs.refuse.Statement.{statement}
-use Rattle.record.proofs.refuse.Tie as tie
+use Rattle.verdict.proofs.refuse.Statement.{statement}
+use Rattle.verdict.proofs.refuse.Tie as tie
 
 none-requires : tie.Need-none-requires
 none-requires c κs = search needs

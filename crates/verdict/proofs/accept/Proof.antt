@@ -2,10 +2,10 @@
 use mathlib.Core.Path.{_≡_, refl, sym, ap, _∙_}
 use mathlib.Core.Bool.{true, false}
 use Rattle.annex.specs.Times.{isShort}
-use Rattle.record.proofs.JudgeLaws.{event-short, event-counted}
+use Rattle.verdict.proofs.VerdictLaws.{event-short, event-counted}
 use borrow.Author.Needs.{needs}
-use Rattle.record.proofs.accept.Statement.{statement}
-use Rattle.record.proofs.accept.Tie as tie
+use Rattle.verdict.proofs.accept.Statement.{statement}
+use Rattle.verdict.proofs.accept.Tie as tie
 
 is-short-requires : tie.Need-is-short-requires
 is-short-requires c κs = search needs
