@@ -7,8 +7,8 @@ use mathlib.Core.Bool.{true}
 use Rattle.codes.specs.declared.Set.{Set}
 use Rattle.codes.specs.declared.Set.the-variants.{All, Std, Unnamed}
 use Rattle.codes.specs.Codes.{rowOf}
-use Rattle.book.specs.Accepted.{Accepted}
-use Rattle.book.specs.Theorem.{bookLedger}
+use Rattle.sums.specs.Accepted.{Accepted}
+use Rattle.sums.specs.Theorem.{bookLedger}
 use Rattle.index.specs.declared.Level.{Level}
 use Rattle.adding.specs.Parts.{typesIn, rest, eachOnce}
 use Rattle.adding.specs.Adding.{TotalsAre, AddsUp}

@@ -14,9 +14,9 @@ use Rattle.ledger.specs.declared.Ledger.{Ledger}
 use Rattle.ledger.specs.Ledger.{emptyLedger}
 use Rattle.ledger.specs.Sound.{soundLedger}
 use Rattle.book.specs.Book.{starting}
-use Rattle.book.specs.Accepted.{zeroMap}
-use Rattle.book.specs.Theorem.{bookLedger}
 use Rattle.book.proofs.SoundLaws.{sound-run}
+use Rattle.sums.specs.Accepted.{zeroMap}
+use Rattle.sums.specs.Theorem.{bookLedger}
 use Rattle.index.specs.declared.Level.{Level}
 use Rattle.index.specs.declared.Level.the-variants.{NN, VN, VVN, Network}
 use Rattle.index.specs.Sums.{servedOf}

@@ -9,9 +9,9 @@ use Rattle.base.specs.Lists.{sum}
 use Rattle.codes.specs.Codes.{rows, rowOf}
 use Rattle.annex.specs.Annex.{njh, njhtjh2}
 use Rattle.ledger.specs.Ledger.{cellOf}
-use Rattle.book.specs.Accepted.{Accepted, eventIn}
-use Rattle.book.specs.Theorem.{eventsOf, bookLedger, IsSum}
-use Rattle.book.proofs.AnnexTheorem.{accepted-book-adds}
+use Rattle.sums.specs.Accepted.{Accepted, eventIn}
+use Rattle.sums.specs.Theorem.{eventsOf, bookLedger, IsSum}
+use Rattle.sums.proofs.AnnexTheorem.{accepted-book-adds}
 use Rattle.index.specs.declared.Level.{Level}
 use Rattle.adding.specs.Parts.{placeOf, eachOnce, counted}
 use Rattle.adding.specs.Adding.{EventsAdd}

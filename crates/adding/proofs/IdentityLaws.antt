@@ -12,7 +12,7 @@ use Rattle.ratio.specs.declared.Fraction.{Fraction}
 use Rattle.codes.specs.declared.Set.{Set}
 use Rattle.ledger.specs.declared.Ledger.{Ledger}
 use Rattle.ledger.specs.Sound.{soundLedger}
-use Rattle.book.specs.Theorem.{bookLedger}
+use Rattle.sums.specs.Theorem.{bookLedger}
 use Rattle.index.specs.declared.Level.{Level}
 use Rattle.index.specs.declared.Index.{Index}
 use Rattle.index.specs.declared.Index.the-variants.{Saifi, Saidi, Caidi}

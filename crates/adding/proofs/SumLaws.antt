@@ -5,7 +5,7 @@ use mathlib.Core.List.{List, [], _∷_, map}
 use mathlib.Core.Bool.{Bool, cond}
 use native.Mathlib.Omega.{arith}
 use Rattle.base.specs.Lists.{sum, keep}
-use Rattle.book.proofs.SumLaws.{sum-kept}
+use Rattle.sums.proofs.SumLaws.{sum-kept}
 use Rattle.index.specs.declared.Level.{Level}
 use Rattle.index.specs.declared.Level.the-variants.{NN, VN, VVN, Network}
 use Rattle.adding.specs.Parts.{across}

@@ -14,7 +14,7 @@ use Rattle.base.proofs.TestLaws.{Tested, holds, fails, test, and-left, and-righ
 use Rattle.codes.specs.Codes.{types, rows, rowOf}
 use Rattle.annex.specs.Annex.{shortEvent}
 use Rattle.fields.specs.Fields.{headIn}
-use Rattle.book.specs.Accepted.{eventIn, rowIn, countedIn}
+use Rattle.sums.specs.Accepted.{eventIn, rowIn, countedIn}
 use Rattle.adding.specs.Parts.{eachOnce, counted}
 use Rattle.adding.proofs.SumLaws.{sum-of-parts, keep-alike}
 

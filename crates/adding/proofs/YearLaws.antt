@@ -25,8 +25,8 @@ use Rattle.ledger.specs.Ledger.{noCell, added}
 use Rattle.ledger.specs.Sound.{soundLedger}
 use Rattle.ledger.specs.Take.{answerOf, ledgerAfter, mapAfter}
 use Rattle.book.specs.Book.{takeRecord}
-use Rattle.book.specs.Accepted.{Accepted}
-use Rattle.book.specs.Theorem.{eventsOf, bookLedger}
+use Rattle.sums.specs.Accepted.{Accepted}
+use Rattle.sums.specs.Theorem.{eventsOf, bookLedger}
 use Rattle.index.specs.declared.Level.{Level}
 use Rattle.index.specs.declared.Level.the-variants.{NN, VN, VVN, Network}
 use Rattle.index.specs.declared.Index.{Index}

@@ -10,7 +10,7 @@ use Rattle.codes.specs.declared.Set.{Set}
 use Rattle.codes.specs.declared.Set.the-variants.{All, Std}
 use Rattle.codes.specs.Codes.{types}
 use Rattle.ledger.specs.declared.Ledger.{Ledger}
-use Rattle.book.specs.Theorem.{eventsOf, bookLedger}
+use Rattle.sums.specs.Theorem.{eventsOf, bookLedger}
 use Rattle.index.specs.declared.Level.{Level}
 use Rattle.index.specs.declared.Level.the-variants.{Network}
 use Rattle.index.specs.declared.Index.{Index}

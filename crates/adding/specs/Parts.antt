@@ -16,7 +16,7 @@ use Rattle.fields.specs.Fields.{headIn}
 use Rattle.ledger.specs.declared.Cell.{Cell}
 use Rattle.ledger.specs.declared.Ledger.{Ledger}
 use Rattle.ledger.specs.Ledger.{cellOf}
-use Rattle.book.specs.Accepted.{eventIn}
+use Rattle.sums.specs.Accepted.{eventIn}
 use Rattle.index.specs.declared.Level.{Level}
 use Rattle.index.specs.declared.Level.the-variants.{NN, VN, VVN, Network}
 use Rattle.index.specs.declared.Index.{Index}

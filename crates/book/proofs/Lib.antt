@@ -1,5 +1,3 @@
-pub mod SumLaws
-pub mod AnnexTheorem
 pub mod SoundLaws
 pub mod RunLaws
 pub mod AppendLaws

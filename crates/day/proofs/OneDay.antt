@@ -21,7 +21,7 @@ use Rattle.ledger.specs.Ledger.{emptyLedger, cellOf, added}
 use Rattle.ledger.specs.Sound.{soundLedger}
 use Rattle.ledger.specs.Take.{answerOf, ledgerAfter, mapAfter}
 use Rattle.book.specs.Book.{starting, takeAll}
-use Rattle.book.specs.Accepted.{zeroMap}
+use Rattle.sums.specs.Accepted.{zeroMap}
 use Rattle.slot.specs.Sound.{isFree, openSound, slotSound}
 use Rattle.roll.specs.Desk.{emptyDesk, numbersOf, deskSound}
 use Rattle.plan.specs.Plan.{lookAnswer}

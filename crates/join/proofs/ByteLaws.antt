@@ -13,7 +13,7 @@ use Rattle.wire.specs.Frame.{kindOf}
 use Rattle.wire.specs.Cut.{recordsOf, joined}
 use Rattle.wire.proofs.CutLaws.{Framed, cut-joined, records-framed}
 use Rattle.book.specs.Book.{isBroken}
-use Rattle.book.specs.Theorem.{eventsOf}
+use Rattle.sums.specs.Theorem.{eventsOf}
 use Rattle.order.proofs.ShapeLaws.{whole-joined}
 use Rattle.join.specs.Join.{Byte, Bytes, joinedBook}
 use Rattle.join.proofs.AppendLaws.{all-append, all-front, all-back, all-keep, keep-append, keep-again}

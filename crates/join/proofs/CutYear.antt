@@ -23,8 +23,8 @@ use Rattle.ledger.specs.Ledger.{emptyLedger, added}
 use Rattle.ledger.specs.Sound.{soundLedger}
 use Rattle.ledger.specs.Take.{answerOf, ledgerAfter, mapAfter}
 use Rattle.book.specs.Book.{takeRecord, afterBook}
-use Rattle.book.specs.Accepted.{zeroMap, Accepted}
-use Rattle.book.specs.Theorem.{bookLedger}
+use Rattle.sums.specs.Accepted.{zeroMap, Accepted}
+use Rattle.sums.specs.Theorem.{bookLedger}
 use Rattle.index.specs.Sums.{levelSum}
 use Rattle.worked.specs.Worked.{year}
 use Rattle.order.specs.Turned.{first}

@@ -21,9 +21,9 @@ use Rattle.verdict.specs.Verdict.{eventVerdict}
 use Rattle.ledger.specs.declared.Ledger.{Ledger}
 use Rattle.ledger.specs.Ledger.{emptyLedger, cellOf, added}
 use Rattle.book.specs.Book.{State, starting, takeAll, afterBook}
-use Rattle.book.specs.Accepted.{zeroMap, Accepted, shortOnes, sumOfCustomers, sumOfHalves}
-use Rattle.book.specs.Theorem.{eventsOf, bookLedger, IsSum}
-use Rattle.book.proofs.AnnexTheorem.{accepted-book-adds}
+use Rattle.sums.specs.Accepted.{zeroMap, Accepted, shortOnes, sumOfCustomers, sumOfHalves}
+use Rattle.sums.specs.Theorem.{eventsOf, bookLedger, IsSum}
+use Rattle.sums.proofs.AnnexTheorem.{accepted-book-adds}
 use Rattle.order.specs.Each.{Right, numberIn, Different, Unmarked, withEvent, withAll, allMarked, onlySheet, Told}
 use Rattle.order.proofs.EachLaws.{right-number, right-not-sheet}
 use Rattle.order.proofs.ShapeLaws.{Shape, no-bytes, sheet-then, accepted-shape, accepted-told, told-taken, told-end, told-accepted, told-counted}

@@ -13,7 +13,7 @@ use Rattle.base.specs.Lists.{any}
 use Rattle.base.proofs.TestLaws.{Tested, holds, fails, test}
 use Rattle.marks.specs.Marks.{bitOf, marked, markedWith}
 use Rattle.marks.proofs.MarkLaws.{markedWith-zero, markedWith-same, markedWith-other, markedWith-past, markedWith-size}
-use Rattle.book.specs.Accepted.{zeroMap}
+use Rattle.sums.specs.Accepted.{zeroMap}
 use Rattle.order.specs.Each.{numberIn, allMarked}
 
 -- marking the number n marks v

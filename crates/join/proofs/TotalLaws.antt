@@ -7,7 +7,7 @@ use lib.ListN.{length, length-append}
 use lib.Dec.{eqb}
 use Rattle.base.specs.Lists.{sum, keep}
 use Rattle.annex.specs.Annex.{njh, njhtjh2, shortEvent}
-use Rattle.book.specs.Accepted.{eventIn, rowIn, shortOnes, sumOfCustomers, sumOfHalves}
+use Rattle.sums.specs.Accepted.{eventIn, rowIn, shortOnes, sumOfCustomers, sumOfHalves}
 use Rattle.join.proofs.AppendLaws.{keep-append, sum-append}
 
 -- a sum over those that pass

@@ -11,8 +11,8 @@ use Rattle.wire.specs.Cut.{recordsOf, joined}
 use Rattle.marks.specs.Marks.{marked}
 use Rattle.ledger.specs.Ledger.{emptyLedger, cellOf}
 use Rattle.book.specs.Book.{afterBook}
-use Rattle.book.specs.Accepted.{zeroMap, Accepted}
-use Rattle.book.specs.Theorem.{eventsOf, bookLedger, IsSum}
+use Rattle.sums.specs.Accepted.{zeroMap, Accepted}
+use Rattle.sums.specs.Theorem.{eventsOf, bookLedger, IsSum}
 use Rattle.order.specs.Each.{numberIn}
 
 -- what a book holds are bytes, so that an event number, which has two, is at most 65,535

@@ -34,10 +34,10 @@ use Rattle.ledger.proofs.LedgerLaws.{sound-events}
 use Rattle.ledger.proofs.TakeLaws.{answer-judged, accepted-verdict, accepted-adds}
 use Rattle.ledger.proofs.SoundLaws.{sound-stays-sound}
 use Rattle.book.specs.Book.{State, takeRecord, takeAll}
-use Rattle.book.specs.Accepted.{acceptedEvents, shortOnes, sumOfCustomers, sumOfHalves}
-use Rattle.book.specs.Theorem.{Adds}
-use Rattle.book.proofs.AnnexTheorem.{adds-exactly}
 use Rattle.book.proofs.RunLaws.{sound-taken}
+use Rattle.sums.specs.Accepted.{acceptedEvents, shortOnes, sumOfCustomers, sumOfHalves}
+use Rattle.sums.specs.Theorem.{Adds}
+use Rattle.sums.proofs.AnnexTheorem.{adds-exactly}
 use Rattle.order.specs.Each.{Right, numberIn, Apart, Unmarked, Each, eventAt, withEvent, withNumber, withAll, allMarked}
 
 -- the rules of a record: those of its bytes and the sheet, that of the map and that of the number of events

@@ -12,7 +12,7 @@ use Rattle.verdict.specs.Verdict.{eventVerdict}
 use Rattle.ledger.specs.declared.Ledger.{Ledger}
 use Rattle.ledger.specs.Ledger.{emptyLedger}
 use Rattle.book.specs.Book.{State, starting, takeAll}
-use Rattle.book.specs.Accepted.{zeroMap, Accepted}
+use Rattle.sums.specs.Accepted.{zeroMap, Accepted}
 use Rattle.order.specs.Perm.{Perm, done, keep, swap, then}
 use Rattle.order.specs.Each.{Right, numberIn, Apart, Different, Unmarked, Each, eventAt, withEvent, withNumber, withAll, allMarked, onlySheet, Told}
 use Rattle.order.specs.Reorder.{Reordered, none, after, end, SameEnd}

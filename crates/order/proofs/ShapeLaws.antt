@@ -32,9 +32,9 @@ use Rattle.ledger.proofs.LedgerLaws.{added-sheet}
 use Rattle.ledger.proofs.TakeLaws.{answer-judged, accepted-verdict, accepted-adds}
 use Rattle.ledger.proofs.SoundLaws.{sound-stays-sound}
 use Rattle.book.specs.Book.{State, starting, takeRecord, takeAll, isBroken, afterBook}
-use Rattle.book.specs.Accepted.{zeroMap, Accepted}
-use Rattle.book.specs.Theorem.{eventsOf}
 use Rattle.book.proofs.RunLaws.{sound-taken}
+use Rattle.sums.specs.Accepted.{zeroMap, Accepted}
+use Rattle.sums.specs.Theorem.{eventsOf}
 use Rattle.order.specs.Each.{Right, withAll, allMarked, onlySheet, Told}
 use Rattle.order.proofs.EachLaws.{Ready, right-kind, right-not-sheet, first-accepted, each-taken, each-accepted}
 

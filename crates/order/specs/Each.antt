@@ -17,7 +17,7 @@ use Rattle.verdict.specs.Verdict.{eventVerdict}
 use Rattle.record.specs.Rules.{unframed, kindNotTaken, lengthWrong, sheetMissingOrSecond, sheetOutOfRange, notListed, timeWrong, countTooLarge, countTooHigh, someAfterNone}
 use Rattle.ledger.specs.declared.Ledger.{Ledger}
 use Rattle.ledger.specs.Ledger.{emptyLedger, added}
-use Rattle.book.specs.Accepted.{zeroMap, eventIn}
+use Rattle.sums.specs.Accepted.{zeroMap, eventIn}
 
 -- right by itself under a sheet: none of the rules 2 to 13 applies
 pub record Right (sheet : Sheet) (s : List ℕ) : Type 0 where

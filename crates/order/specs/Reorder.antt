@@ -5,7 +5,7 @@ use mathlib.Core.Path.{_≡_}
 use mathlib.Core.List.{List, [], _∷_}
 use Rattle.ledger.specs.Ledger.{emptyLedger}
 use Rattle.book.specs.Book.{State, afterBook}
-use Rattle.book.specs.Accepted.{zeroMap, Accepted}
+use Rattle.sums.specs.Accepted.{zeroMap, Accepted}
 use Rattle.order.specs.Perm.{Perm}
 
 -- a book's records, the sheet first as before, and the events in any order; the book of no bytes has neither

@@ -17,7 +17,7 @@ use Rattle.ledger.specs.Ledger.{added}
 use Rattle.ledger.specs.Sound.{soundLedger}
 use Rattle.ledger.specs.Take.{answerOf, ledgerAfter, mapAfter}
 use Rattle.book.specs.Book.{takeRecord}
-use Rattle.book.specs.Accepted.{Accepted}
+use Rattle.sums.specs.Accepted.{Accepted}
 use Rattle.index.specs.declared.Level.the-variants as level
 use Rattle.index.specs.Sums.{levelSum}
 use Rattle.worked.specs.Bytes.{three, sheet, times}

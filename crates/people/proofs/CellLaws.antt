@@ -20,9 +20,9 @@ use Rattle.ledger.specs.Ledger.{cellOf}
 use Rattle.ledger.specs.Take.{ledgerAfter}
 use Rattle.ledger.proofs.ExactlyThen.{exactly-0}
 use Rattle.book.specs.Book.{starting, takeRecord}
-use Rattle.book.specs.Accepted.{eventIn, rowIn, acceptedEvents, countedIn}
-use Rattle.book.specs.Theorem.{Adds}
-use Rattle.book.proofs.AnnexTheorem.{adds-exactly}
+use Rattle.sums.specs.Accepted.{eventIn, rowIn, acceptedEvents, countedIn}
+use Rattle.sums.specs.Theorem.{Adds}
+use Rattle.sums.proofs.AnnexTheorem.{adds-exactly}
 use Rattle.people.specs.People.{Agrees, Counted, AddsByCustomer}
 use Rattle.people.proofs.PeopleLaws.{by-customer}
 

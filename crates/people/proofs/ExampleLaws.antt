@@ -18,7 +18,7 @@ use Rattle.ledger.specs.Sound.{soundLedger}
 use Rattle.ledger.specs.Take.{answerOf, ledgerAfter, mapAfter}
 use Rattle.ledger.proofs.TakeLaws.{cells-length-kept}
 use Rattle.book.specs.Book.{takeRecord}
-use Rattle.book.specs.Accepted.{zeroMap, rowIn}
+use Rattle.sums.specs.Accepted.{zeroMap, rowIn}
 use Rattle.worked.specs.Worked.{sheet105, example105}
 use Rattle.people.specs.People.{halvesOfAll, offIn, Agrees, Counted, AddsByCustomer}
 use Rattle.people.specs.Example.{inAll, inTwo, customers105, before105}

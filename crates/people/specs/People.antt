@@ -14,7 +14,7 @@ use Rattle.fields.specs.Fields.{headIn, stepsIn}
 use Rattle.ledger.specs.declared.Ledger.{Ledger}
 use Rattle.ledger.specs.Ledger.{cellOf}
 use Rattle.ledger.specs.Take.{answerOf, ledgerAfter}
-use Rattle.book.specs.Accepted.{eventIn, rowIn}
+use Rattle.sums.specs.Accepted.{eventIn, rowIn}
 
 -- "The counts of step k hold from the time before it (T0 for the first) to its own time": how long each step holds
 abbrev pub durations : ℕ → List Step → List ℕ

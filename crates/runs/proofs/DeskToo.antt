@@ -18,8 +18,8 @@ use Rattle.ledger.specs.Ledger.{emptyLedger}
 use Rattle.ledger.specs.Take.{answerOf, ledgerAfter, mapAfter}
 use Rattle.book.specs.Book as books
 use Rattle.book.specs.Book.{starting, takeRecord, takeAll, isBroken}
-use Rattle.book.specs.Accepted.{zeroMap, Accepted}
 use Rattle.book.proofs.AppendLaws.{refusedBefore, before-all}
+use Rattle.sums.specs.Accepted.{zeroMap, Accepted}
 use Rattle.roll.specs.Desk.{slotCount}
 use Rattle.day.specs.Day.{State, Arrival, message, entry, bytesOf, Bytes}
 use Rattle.day.specs.Story.{completeRecords, emptyDay, NothingOpen}

@@ -22,7 +22,7 @@ use Rattle.ledger.specs.Ledger.{emptyLedger, added}
 use Rattle.ledger.specs.Sound.{soundLedger}
 use Rattle.ledger.specs.Take.{answerOf, ledgerAfter, mapAfter}
 use Rattle.book.specs.Book.{takeRecord}
-use Rattle.book.specs.Accepted.{zeroMap}
+use Rattle.sums.specs.Accepted.{zeroMap}
 use Rattle.slot.specs.Sound.{isFree, openSound, slotSound}
 use Rattle.roll.specs.Desk.{slotCount, emptyDesk, deskSound}
 use Rattle.plan.specs.Plan.{lookAnswer}

@@ -19,7 +19,7 @@ use Rattle.ledger.specs.Ledger.{emptyLedger, cellOf, added}
 use Rattle.ledger.specs.Sound.{soundLedger}
 use Rattle.ledger.specs.Take.{answerOf, ledgerAfter, mapAfter}
 use Rattle.book.specs.Book.{State, takeRecord}
-use Rattle.book.specs.Accepted.{zeroMap, Accepted}
+use Rattle.sums.specs.Accepted.{zeroMap, Accepted}
 use Rattle.slot.specs.Sound.{isFree, openSound, slotSound}
 use Rattle.roll.specs.Desk.{deskSound}
 use Rattle.plan.specs.Plan.{lookAnswer}

@@ -10,7 +10,7 @@ use Rattle.wire.specs.Frame.{kindOf}
 use Rattle.ledger.specs.declared.Ledger.{Ledger}
 use Rattle.ledger.specs.Ledger.{emptyLedger}
 use Rattle.book.specs.Book.{starting, takeAll, afterBook}
-use Rattle.book.specs.Accepted.{zeroMap}
+use Rattle.sums.specs.Accepted.{zeroMap}
 use Rattle.roll.specs.Desk.{emptyDesk}
 use Rattle.day.specs.Day.{State, Arrival, message, entry, bytesOf, afterAll, acceptedOf, Bytes}
 use Rattle.day.specs.Story.{completeRecords, emptyDay, NothingOpen}

@@ -22,7 +22,7 @@ use Rattle.ledger.specs.Ledger.{emptyLedger, cellOf, added}
 use Rattle.ledger.specs.Sound.{soundLedger}
 use Rattle.ledger.specs.Take.{answerOf, ledgerAfter, mapAfter}
 use Rattle.book.specs.Book.{State, starting, takeRecord, takeAll, afterBook}
-use Rattle.book.specs.Accepted.{zeroMap}
+use Rattle.sums.specs.Accepted.{zeroMap}
 use Rattle.index.specs.declared.Level.{Level}
 use Rattle.index.specs.declared.Level.the-variants as level
 use Rattle.index.specs.declared.Index.{Index}

@@ -34,10 +34,10 @@ use Rattle.ledger.specs.Take.{answerOf, ledgerAfter}
 use Rattle.ledger.proofs.LedgerLaws.{added-sheet, grown-at}
 use Rattle.ledger.proofs.TakeLaws.{accepted-verdict, accepted-adds, refused-hands-back, cells-length-kept}
 use Rattle.ledger.proofs.ExactlyThen.{exactly-0}
 use Rattle.book.specs.Book.{State, starting, takeRecord, takeAll}
-use Rattle.book.specs.Accepted.{zeroMap, Accepted, eventIn, rowIn, acceptedEvents, shortOnes, sumOfCustomers, sumOfHalves}
-use Rattle.book.specs.Theorem.{refusedOnes, Adds, eventsOf, IsSum}
-use Rattle.book.proofs.SumLaws.{sum-kept, sum-of-ones, count-kept}
+use Rattle.sums.specs.Accepted.{zeroMap, Accepted, eventIn, rowIn, acceptedEvents, shortOnes, sumOfCustomers, sumOfHalves}
+use Rattle.sums.specs.Theorem.{refusedOnes, Adds, eventsOf, IsSum}
+use Rattle.sums.proofs.SumLaws.{sum-kept, sum-of-ones, count-kept}
 
 -- the verdict on the event that a record tells, and the ledger with a sheet put in
 abbrev eventOf : Sheet → List ℕ → Verdict

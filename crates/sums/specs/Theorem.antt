@@ -12,8 +12,8 @@ use Rattle.wire.specs.Cut.{recordsOf}
 use Rattle.ledger.specs.declared.Ledger.{Ledger}
 use Rattle.ledger.specs.Ledger.{emptyLedger, cellOf}
 use Rattle.ledger.specs.Take.{answerOf}
 use Rattle.book.specs.Book.{State, starting, takeRecord, takeAll, afterBook}
-use Rattle.book.specs.Accepted.{zeroMap, acceptedEvents, shortOnes, sumOfCustomers, sumOfHalves}
+use Rattle.sums.specs.Accepted.{zeroMap, acceptedEvents, shortOnes, sumOfCustomers, sumOfHalves}
 
 -- the records that are refused, among those taken from a state on
 abbrev pub refusedOnes : State → List (List ℕ) → List (List ℕ)
