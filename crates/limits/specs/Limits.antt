@@ -1,4 +1,4 @@
--- What 01 asks of an event's times and counts, each as its sentence has it ("What one event adds", "Refusal numbers").
+-- What 01 asks of an event's times and counts, each as its sentence has it ("Bytes on the wire", "What one event adds", "Refusal numbers").
 use Prim.Native.Nat.{ℕ}
 use mathlib.Core.List.{List, [], _∷_}
 use mathlib.Core.Bool.{Bool, false, _&&_, _||_, not}

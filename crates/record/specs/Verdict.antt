@@ -1,4 +1,4 @@
--- What judging a record comes to, by the rules in their order: the smallest number that applies, and the verdict of that answer.
+-- What judging a record comes to, by the rules in their order (01, "Refusal numbers"): the smallest number that applies, and the verdict of that answer.
 use Prim.Native.Nat.{ℕ, _+_, _*_, _<_, _≤_}
 use mathlib.Core.Path.{_≡_}
 use mathlib.Core.Logic.{_⊎_}
