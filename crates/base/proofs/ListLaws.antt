@@ -7,6 +7,7 @@ use lib.ListN.{length, getD, set, drop, drop-of-length-le}
 use lib.Seq.{drop-cons}
 use lib.Dec.{eqb}
 use native.Mathlib.Numerals.{add-one}
+use borrow.Author.Tests.{eq-eqb, ne-eqb}
 use native.Mathlib.Nat.{le-of-suc-le-suc, not-suc-le-zero}
 use Rattle.base.specs.Lists.{every, any, listed}
 use Rattle.base.proofs.TestLaws.{and-left, and-right, and-both}
@@ -41,3 +42,14 @@ listed-more x i hit t h = rw (add-one, drop-cons t i 0) (sym (or-assoc hit (eqb 
 
 pub listed-ends : (x i : ℕ) (hit : Bool) (t : List ℕ) → length t ≤ i → (hit || listed x (drop i t)) ≡ hit
 listed-ends x i hit t h = rw (drop-of-length-le t h) (or-false hit)
+
+-- a lookup that stops at a hit: the entry at i has the number, or has another and the lookup goes on, or there is no entry left
+module _ (x i : ℕ) (t : List ℕ) where
+  pub listed-here : i < length t → x ≡ getD t i 0 → listed x (drop i t) ≡ true
+  listed-here h e = listed-more x i false t h ∙ ap (λ b. b || listed x (drop (i + 1) t)) (eq-eqb x (getD t i 0) e)
+
+  pub listed-past : i < length t → (x ≡ getD t i 0 → ⊥) → listed x (drop i t) ≡ listed x (drop (i + 1) t)
+  listed-past h n = listed-more x i false t h ∙ ap (λ b. b || listed x (drop (i + 1) t)) (ne-eqb x (getD t i 0) n)
+
+  pub listed-none : length t ≤ i → listed x (drop i t) ≡ false
+  listed-none h = listed-ends x i false t h

@@ -72,17 +72,18 @@ pub fn level_of(voltage: u8) -> u8
     LEVELS
 }
 
-// The lookup, in a table of 22 codes. It looks at every entry, so that it has one way out.
+// The lookup, in a table of 22 codes. At a constant table the compiler makes one test of bits of it.
 fn in_table(table: [u8; 22], code: u8) -> bool
     ensures { λ r. ⌜ r ≡ listed code table ⌝ }
 {
-    let mut hit = false;
     let mut i = 0;
     while i < 22 {
-        hit = hit | (code == table[i]);
+        if code == table[i] {
+            return true;
+        }
         i += 1;
     }
-    hit
+    false
 }
 
 // Whether a cause is listed; 0 means not recorded and counts as listed.
