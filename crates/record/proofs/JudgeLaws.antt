@@ -1,21 +1,26 @@
 -- What a verdict is, by its answer: callers cite these laws and not the definitions. Assumes nothing.
 use Prim.Native.Nat.{ℕ, _≤_}
 use mathlib.Core.Path.{_≡_, refl, sym, _∙_, ap}
-use mathlib.Core.List.{List, []}
-use mathlib.Core.Bool.{Bool, true, false, cond, not}
+use mathlib.Core.List.{List, [], _∷_}
+use mathlib.Core.Bool.{Bool, true, false, cond, not, _||_}
 use lib.Dec.{eqb, leb}
 use borrow.Author.Tests.{eq-eqb, ne-eqb, eqb-true, eqb-false, not-false}
-use Rattle.base.specs.First.{first, Clear, Foremost}
+use Rattle.base.specs.First.{Rule, first, Clear, Foremost}
 use Rattle.base.proofs.FirstLaws.{clear, unclear, then}
 use Rattle.base.proofs.TestLaws.{Tested, holds, fails, test, or-right}
 use Rattle.wire.specs.Frame.{framed, kindOf}
+use Rattle.codes.specs.Codes.{levelOf}
+use Rattle.annex.specs.declared.Simple.{Simple}
 use Rattle.annex.specs.Times.{minutesIn}
+use Rattle.marks.specs.Marks.{marked}
 use Rattle.fields.specs.declared.Sheet.{Sheet}
+use Rattle.fields.specs.declared.Head.{Head}
 use Rattle.fields.specs.Fields.{headIn, simpleIn, stepsIn}
-use Rattle.limits.specs.Limits.{simpleLate, anyLate}
+use Rattle.fields.specs.Tests.{headListed}
+use Rattle.limits.specs.Limits.{exceeding, aboveLevel, simpleLate, noneThenSome, anyLate}
 use Rattle.verdict.specs.declared.Verdict.{Verdict}
 use Rattle.verdict.specs.Verdict.{refusedWith, eventVerdict}
-use Rattle.record.specs.Rules.{byKind, rules, rulesAt, firstOf, lengthWrong, sheetMissingOrSecond, notListed, timeWrong, countTooLarge, countTooHigh, someAfterNone, alreadyMarked, ledgerFull}
+use Rattle.record.specs.Rules.{byKind, rules, rulesAt, firstOf, lengthWrong, sheetMissingOrSecond, notListed, timeWrong, countTooLarge, countTooHigh, alreadyMarked, ledgerFull, simpleAnswer}
 use Rattle.record.specs.Verdict.{acceptedAt, answerAt, verdictAt, recordAnswer, verdictOf}
 
 module _ (kind : ℕ) (s : List ℕ) (sheet : Sheet) (m : List ℕ) (events : ℕ) where
@@ -89,11 +94,7 @@ module _ (kind : ℕ) (s : List ℕ) (sheet : Sheet) (m : List ℕ) (events : �
 
 -- an event of the right length: the tests that are left, in order
 module _ (s : List ℕ) (sheet : Sheet) (m : List ℕ) (events : ℕ) where
-  pub simple-answer :
-      lengthWrong 2 s ≡ false →
-      answerAt 2 s sheet m events ≡
-      firstOf (sheetMissingOrSecond 2 sheet) (notListed 2 s) (timeWrong 2 s sheet) (countTooLarge 2 s sheet)
-      (cond (countTooHigh 2 s) 12 (cond (someAfterNone 2 s) 13 (cond (alreadyMarked 2 s m) 14 (cond (ledgerFull 2 events) 15 0))))
+  pub simple-answer : lengthWrong 2 s ≡ false → answerAt 2 s sheet m events ≡ simpleAnswer (headIn s) (simpleIn s) sheet m events
   unfolding answerAt
   simple-answer e = rw e
 
@@ -127,3 +128,23 @@ sheet-alone s sheet m events = refl
 pub ten-hides : (c5 c7 c10 : Bool) → c10 ≡ true → (a b : Bool) (r s : ℕ) → firstOf c5 c7 c10 a r ≡ firstOf c5 c7 c10 b s
 ten-hides c5 c7 c10 e a b r s =
     ap (λ t. cond c5 5 (cond c7 7 (cond t 10 (cond a 11 r)))) e ∙ ap (λ t. cond c5 5 (cond c7 7 (cond t 10 (cond b 11 s)))) (sym e)
+
+-- the tests of `simpleAnswer`, which is the number of the first that holds
+abbrev pub simpleTests : Head → Simple → Sheet → List ℕ → ℕ → List Rule
+simpleTests h e sheet m events =
+    (5, not (sheet .there)) ∷
+    (7, not (headListed h)) ∷
+    (10, leb (minutesIn (sheet .year)) (h .t0) || simpleLate (h .typ) e) ∷
+    (11, exceeding (sheet .totals) (e .n1) || exceeding (sheet .totals) (e .n2)) ∷
+    (12, aboveLevel (levelOf (h .voltage)) (e .n1) || aboveLevel (levelOf (h .voltage)) (e .n2)) ∷
+    (13, noneThenSome e) ∷
+    (14, marked m (h .number)) ∷
+    (15, leb 65535 events) ∷ []
+
+-- a test that holds answers its number, and one that fails leaves the answer to the rest
+module _ {b : Bool} (n rest : ℕ) {x : ℕ} (e : cond b n rest ≡ x) where
+  pub met : b ≡ true → n ≡ x
+  met h = ap (λ t. cond t n rest) (sym h) ∙ e
+
+  pub passed : b ≡ false → rest ≡ x
+  passed h = ap (λ t. cond t n rest) (sym h) ∙ e

@@ -9,10 +9,12 @@ use Rattle.base.specs.First.{Rule, first}
 use Rattle.base.specs.Lists.{any}
 use Rattle.wire.specs.Frame.{framed, kindOf}
 use Rattle.codes.specs.Codes.{levelOf}
+use Rattle.annex.specs.declared.Simple.{Simple}
 use Rattle.annex.specs.declared.Step.{Step}
 use Rattle.annex.specs.Times.{minutesIn}
 use Rattle.marks.specs.Marks.{marked}
 use Rattle.fields.specs.declared.Sheet.{Sheet}
+use Rattle.fields.specs.declared.Head.{Head}
 use Rattle.fields.specs.Fields.{sheetIn, headIn, simpleIn, stepsIn, stepCount}
 use Rattle.fields.specs.Tests.{inRange, headListed}
 use Rattle.limits.specs.Limits.{exceeding, aboveLevel, anyLate, simpleLate, noneThenSome}
@@ -102,3 +104,11 @@ rules s sheet m events = (2, unframed s) ∷ rulesAt (kindOf s) s sheet m events
 -- the first of the tests that an event meets once its length is right
 abbrev pub firstOf : Bool → Bool → Bool → Bool → ℕ → ℕ
 firstOf c5 c7 c10 c11 rest = cond c5 5 (cond c7 7 (cond c10 10 (cond c11 11 rest)))
+
+-- the smallest number that applies to a simple event of the right length, of its head and its times and counts
+abbrev pub simpleAnswer : Head → Simple → Sheet → List ℕ → ℕ → ℕ
+simpleAnswer h e sheet m events =
+    firstOf (not (sheet .there)) (not (headListed h)) (leb (minutesIn (sheet .year)) (h .t0) || simpleLate (h .typ) e)
+    (exceeding (sheet .totals) (e .n1) || exceeding (sheet .totals) (e .n2))
+    (cond (aboveLevel (levelOf (h .voltage)) (e .n1) || aboveLevel (levelOf (h .voltage)) (e .n2)) 12
+    (cond (noneThenSome e) 13 (cond (marked m (h .number)) 14 (cond (leb 65535 events) 15 0))))

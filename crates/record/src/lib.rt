@@ -2,9 +2,11 @@
 ghost use mathlib.Core.Path.{_≡_};
 ghost use mathlib.Core.Bool.{cond};
 ghost use mathlib.Core.List.{[]};
-ghost use Rattle.record.specs.Rules.{firstOf};
+ghost use Rattle.record.specs.Rules.{firstOf, simpleAnswer};
 ghost use Rattle.record.specs.Verdict.{verdictAt, verdictOf};
 use annex::Figures;
+use annex::Simple;
+use fields::Head;
 use fields::Sheet;
 use verdict::Verdict;
 
@@ -70,6 +72,41 @@ fn judge_sheet(bytes: &[u8], sheet: Sheet) -> Verdict
     }
 }
 
+// The smallest number that applies to a simple event, 0 where none does. Each test is made only where none before it applies.
+fn simple_answer(head: Head, e: Simple, sheet: Sheet, map: &[u8], events: u16) -> u8
+    ensures { λ r. ⌜ r ≡ simpleAnswer head e sheet (now (map .entry)) events ⌝ }
+{
+    let n = sheet.totals;
+    let level = codes::level_of(head.voltage);
+    let a = e.n1;
+    let b = e.n2;
+    if !sheet.there {
+        return 5;
+    }
+    if !head.listed() {
+        return 7;
+    }
+    if (annex::minutes_in(sheet.year) <= head.t0) | limits::is_simple_late(e, head.typ) {
+        return 10;
+    }
+    if limits::exceeds(a, n) | limits::exceeds(b, n) {
+        return 11;
+    }
+    if limits::is_above(a, level) | limits::is_above(b, level) {
+        return 12;
+    }
+    if limits::is_none_then_some(e) {
+        return 13;
+    }
+    if marks::is_marked(map, head.number) {
+        return 14;
+    }
+    if 65535 <= events {
+        return 15;
+    }
+    0
+}
+
 // A record of kind 2.
 fn judge_simple(bytes: &[u8], sheet: Sheet, map: &[u8], events: u16) -> Verdict
     ensures { λ r. ⌜ r ≡ verdictAt 2 (now (bytes .entry)) sheet (now (map .entry)) events ⌝ }
@@ -79,23 +116,7 @@ fn judge_simple(bytes: &[u8], sheet: Sheet, map: &[u8], events: u16) -> Verdict
     }
     let head = fields::head_of(bytes);
     let e = fields::simple_of(bytes);
-    let n = sheet.totals;
-    let level = codes::level_of(head.voltage);
-    let a = e.n1;
-    let b = e.n2;
-    let rest = first_of_four(
-        limits::is_above(a, level) | limits::is_above(b, level),
-        limits::is_none_then_some(e),
-        marks::is_marked(map, head.number),
-        65535 <= events,
-    );
-    let answer = first_of(
-        !sheet.there,
-        !head.listed(),
-        (annex::minutes_in(sheet.year) <= head.t0) | limits::is_simple_late(e, head.typ),
-        limits::exceeds(a, n) | limits::exceeds(b, n),
-        rest,
-    );
+    let answer = simple_answer(head, e, sheet, map, events);
     if answer != 0 {
         return verdict::refuse(sheet, answer);
     }
