@@ -1,3 +1,4 @@
+pub mod ArrayLend
 pub mod OneOutcome
 pub mod Rows
 pub mod Shared

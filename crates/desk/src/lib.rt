@@ -1,8 +1,9 @@
 // The desk: a lent table of 32 slots, and the one entry for open, step and close. The rules stand in `plan`; here a slot is taken out by value
 // and written back, and no function knows a rule.
 ghost use mathlib.Core.Path.{_≡_};
+ghost use mathlib.Core.Bool.{true};
 ghost use lib.ListN.{length, getD, set};
-ghost use Rattle.roll.specs.Roll.{rolled};
+ghost use Rattle.roll.specs.Roll.{rollBy, rolled};
 ghost use Rattle.plan.specs.Rules.{lookAt};
 ghost use Rattle.plan.specs.Plan.{planOf};
 ghost use Rattle.plan.specs.Serve.{servedOf, mapServed, deskServed};
@@ -28,24 +29,26 @@ fn slot_put(desk: &mut [Slot], i: usize, slot: Slot)
     }
 }
 
-// The roll of all slots, from the first.
-fn roll_of(desk: &[Slot], start: Roll) -> Roll
-    ensures { λ r. ⌜ r ≡ rolled start 0 (now (desk .entry)) ⌝ }
+// Enters all slots, from the first: their numbers are written among the numbers, and the answer is whether all slots are sound.
+fn enter_all(desk: &[Slot], numbers: &mut [u16]) -> bool
+    ensures { λ r. ⌜ (r ≡ rolled (rollBy true (now (numbers .entry))) 0 (now (desk .entry)) .sound) × (now (numbers .exit) ≡ rolled (rollBy true (now (numbers .entry))) 0 (now (desk .entry)) .numbers) ⌝ }
 {
-    let mut roll = start;
+    let mut sound = true;
     let mut i: usize = 0;
     while i < desk.len() {
-        roll = roll.with(i, desk[i]);
+        sound = roll::enter(numbers, sound, i, desk[i]);
         i += 1;
     }
-    roll
+    sound
 }
 
 // What a message is to do to a desk, which is only read.
 fn planned(desk: &[Slot], ledger: Ledger, map: &[u8], bytes: &[u8]) -> Plan
     ensures { λ r. ⌜ r ≡ planOf (lookAt (now (desk .entry)) (now (bytes .entry))) (length (now (desk .entry))) ledger (now (map .entry)) (now (bytes .entry)) ⌝ }
 {
-    let roll = roll_of(desk, Roll::begin());
+    let mut numbers = [0u16; 32];
+    let sound = enter_all(desk, &mut numbers);
+    let roll = Roll::by(sound, numbers);
     let slot = slot_at(desk, roll.named(bytes), Slot::free());
     plan::decide(desk.len(), roll, slot, ledger, map, bytes)
 }

@@ -1,6 +1,5 @@
 -- An array `[T; n]` in a local whose first k elements are lent as a `&κ mut [T]` and come back: the row of its cells is cut after k elements, the front is lent, and the two are put together again at what the front has come to.
 --     cells-apart, cells-joined        the cells of xs ++ zs are those of xs, and after them those of zs
---     cell-in          the local's cell, at the array xs, is xs in memory.        cell-out      and back, with the array's relation
 --     Kept             what stays with the holder: the lender's part of the front, and the cells after it
 --     lends-first      given `Room`:  xs in memory  ⊢ ⇛ ∃ γ. own (the `&κ mut [T]` ((b, o), γ, take k xs)) ∗ Kept
 --     first-back       [†κ] ∗ Kept ∗ finally γ zs  ⊢ ⇛ (zs ++ drop k xs in memory)
@@ -44,19 +43,7 @@ module _ (T : SemTy) {M : Type 1} (𝓤 : URA M) (H : Heap 𝓤) (A : Atoms 𝓤
       qed W (‵ (cells T (x ∷ xs) b o) ∷ ‵ (cells T zs b (place (T .size) (o + T .size) (length xs))) ∷ []) ∵ fsplit ! $ move ! (1 ∷ 2 ∷ []) $
       use2 W (‵ (cells T (xs ++ zs) b (o + T .size))) (cells-joined xs zs (o + T .size)) $ move ! (1 ∷ 0 ∷ []) $ done !
 
-module _ (R : RattleType) (one : Single (R .mir)) (vals : R .Denot → List Val) (tl : Tells R (Is R) vals) (n : ℕ) {M : Type 1} (𝓤 : URA M) (H : Heap 𝓤) (A : Atoms 𝓤) (W : Given 𝓤 H A) (b o : ℕ) where
-  pub cell-in : Makes 𝓤 H A R (Is R) → (xs : List (R .Denot)) → Is (Array R n) xs (array-vals vals xs) → ent 𝓤 (sem 𝓤 H A (cellAt fullShare (Array R n .mir) (array-vals vals xs) b o)) (sem 𝓤 H A (partAt (Array R n) fullShare xs b o))
-  unfolding partOf
-  cell-in mk xs g =
-      qed W (‵ (cellAt fullShare (Array R n .mir) (array-vals vals xs) b o) ∷ []) ∵ owned ! (Array R n) (Is (Array R n)) (array-makes 𝓤 H A W R mk n) xs (array-vals vals xs) g $ move ! (1 ∷ 0 ∷ []) $ fjoin ! $
-      fpack ! (List Val) (λ us. fsep (cellAt fullShare (Array R n .mir) us b o) (Array R n .own xs us)) (array-vals vals xs) $ done !
-
-  pub cell-out : (xs : List (R .Denot)) → ent 𝓤 (sem 𝓤 H A (partAt (Array R n) fullShare xs b o)) (guard 𝓤 (Is (Array R n) xs (array-vals vals xs)) (sem 𝓤 H A (cellAt fullShare (Array R n .mir) (array-vals vals xs) b o)))
-  unfolding partOf
-  cell-out xs =
-      qed W (‵ (partAt (Array R n) fullShare xs b o) ∷ []) ∵ fpick ! (λ vs. fsplit ! $ move ! (1 ∷ []) $ facts ! (Array R n) (Is (Array R n)) (shows 𝓤 H A (Array R n)) xs vs (λ p.
-      rewrite ! 0 (λ (us : List Val). ‵ (cellAt fullShare (Array R n .mir) us b o)) (array-tells R vals tl n xs vs p) refl $ check ! (subst (Is (Array R n) xs) (array-tells R vals tl n xs vs p) p) $ done !))
-
+module _ (R : RattleType) (one : Single (R .mir)) (n : ℕ) {M : Type 1} (𝓤 : URA M) (H : Heap 𝓤) (A : Atoms 𝓤) (W : Given 𝓤 H A) (b o : ℕ) where
   -- the cells of the elements after the first k of xs
   abbrev Back : List (R .Denot) → ℕ → Fml
   Back xs k = cells (mem R) (drop k xs) b (place (mem R .size) o (length (take k xs)))

@@ -11,9 +11,13 @@ use Rattle.slot.specs.Sound.{slotSound}
 use Rattle.roll.specs.declared.Roll.{Roll}
 use Rattle.roll.specs.Desk.{slotCount, numberAt, differ}
 
+-- whether the slots so far are sound, with the numbers so far
+abbrev pub rollBy : Bool → List ℕ → Roll
+rollBy sound numbers = record { sound = sound; numbers = numbers }
+
 -- before the first slot
 abbrev pub noRoll : Roll
-noRoll = record { sound = true; numbers = replicate slotCount 0 }
+noRoll = rollBy true (replicate slotCount 0)
 
 -- with the slot at an index
 unfoldable pub rolledSlot : Roll → ℕ → Slot → Roll

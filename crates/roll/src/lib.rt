@@ -1,10 +1,10 @@
 // The roll of a desk: what one pass over its slots gathers, and the searches in it.
 ghost use mathlib.Core.Path.{_≡_};
 ghost use Prim.Native.Nat.{_+_, _≤_};
-ghost use lib.ListN.{drop};
+ghost use lib.ListN.{drop, set};
 ghost use Rattle.base.specs.Lists.{listed, place};
 ghost use Rattle.roll.specs.Desk.{differ};
-ghost use Rattle.roll.specs.Roll.{noRoll, rolledSlot, rollSound, placeNamed};
+ghost use Rattle.roll.specs.Roll.{rollBy, rolledSlot, rollSound, placeNamed};
 use slot::Slot;
 
 // How many slots a desk has.
@@ -16,14 +16,14 @@ pub struct Roll {
     pub numbers: [u16; 32],
 }
 
-// Whether a number stands in a table of 32, from an index on.
-fn listed_from(table: [u16; 32], start: usize, number: u16) -> bool
+// Whether a number stands in a table of 32, from an index on. It looks at every entry, so that the loop's length is known.
+fn listed_from(table: [u16; 32], start: u16, number: u16) -> bool
     ensures { λ r. ⌜ r ≡ listed number (drop start table) ⌝ }
 {
     let mut hit = false;
-    let mut i = start;
+    let mut i: u16 = 0;
     while i < 32 {
-        hit = hit | (number == table[i]);
+        hit = hit | ((start <= i) & (number == table[i as usize]));
         i += 1;
     }
     hit
@@ -34,9 +34,9 @@ fn numbers_differ(table: [u16; 32]) -> bool
     ensures { λ r. ⌜ r ≡ differ table ⌝ }
 {
     let mut ok = true;
-    let mut i: usize = 0;
+    let mut i: u16 = 0;
     while i < 32 {
-        let number = table[i];
+        let number = table[i as usize];
         ok = ok & ((number == 0) | !listed_from(table, i + 1, number));
         i += 1;
     }
@@ -57,27 +57,35 @@ fn place_in(table: [u16; 32], number: u16) -> usize
     32
 }
 
-impl Roll {
-    // Before the first slot.
-    pub fn begin() -> Roll
-        ensures { λ r. ⌜ r ≡ noRoll ⌝ }
-    {
-        Roll {
-            sound: true,
-            numbers: [0u16; 32],
-        }
+// Writes a number at an index, as far as the numbers reach.
+fn note(numbers: &mut [u16], at: usize, number: u16)
+    ensures { λ r. ⌜ now (numbers .exit) ≡ set (now (numbers .entry)) at number ⌝ }
+{
+    if numbers.len() <= at {
+        return;
     }
+    numbers[at] = number;
+}
 
-    // With the slot at an index.
-    pub fn with(mut self, at: usize, slot: Slot) -> Roll
-        ensures { λ r. ⌜ r ≡ rolledSlot self at slot ⌝ }
+// Enters the slot at an index: its number is written among the numbers, and the answer is whether all slots so far are sound. Of a free slot nothing
+// more is asked.
+pub fn enter(numbers: &mut [u16], sound: bool, at: usize, slot: Slot) -> bool
+    ensures { λ r. ⌜ (r ≡ rolledSlot (rollBy sound (now (numbers .entry))) at slot .sound) × (now (numbers .exit) ≡ rolledSlot (rollBy sound (now (numbers .entry))) at slot .numbers) ⌝ }
+{
+    let head = slot.head;
+    note(numbers, at, head.number);
+    if slot.is_free() {
+        return sound;
+    }
+    sound & slot.open_sound()
+}
+
+impl Roll {
+    // The roll that has been entered.
+    pub fn by(sound: bool, numbers: [u16; 32]) -> Roll
+        ensures { λ r. ⌜ r ≡ rollBy sound numbers ⌝ }
     {
-        let head = slot.head;
-        self.sound = self.sound & slot.sound();
-        if at < 32 {
-            self.numbers[at] = head.number;
-        }
-        self
+        Roll { sound, numbers }
     }
 
     // Whether the roll is that of a sound desk of so many slots.

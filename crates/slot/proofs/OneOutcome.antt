@@ -9,6 +9,8 @@ use Rattle.slot.proofs.Slot.stepped.Kinds as stepped-kinds
 use Rattle.slot.proofs.Slot.stepped.Reads as stepped
 use Rattle.slot.proofs.Slot.is_free.Kinds as is-free-kinds
 use Rattle.slot.proofs.Slot.is_free.Reads as is-free
+use Rattle.slot.proofs.Slot.open_sound.Kinds as open-sound-kinds
+use Rattle.slot.proofs.Slot.open_sound.Reads as open-sound
 use Rattle.slot.proofs.Slot.sound.Kinds as sound-kinds
 use Rattle.slot.proofs.Slot.sound.Reads as sound
 
@@ -23,6 +25,9 @@ stepped-one κs a x y v w p q = (alike p q, refl)
 
 pub is-free-one : OneOutcome is-free-kinds.ps is-free-kinds.r is-free.Post
 is-free-one κs a x y v w p q = (alike p q, refl)
+
+pub open-sound-one : OneOutcome open-sound-kinds.ps open-sound-kinds.r open-sound.Post
+open-sound-one κs a x y v w p q = (alike p q, refl)
 
 pub sound-one : OneOutcome sound-kinds.ps sound-kinds.r sound.Post
 sound-one κs a x y v w p q = (alike p q, refl)

@@ -1,12 +1,12 @@
 -- What a sound slot is, test by test: an open one meets the open slot's list, a free one holds zeros only. Assumes nothing.
 use Prim.Native.Nat.{ℕ, _*_, _-_, _<_, _≤_}
-use mathlib.Core.Path.{_≡_, refl, ap, _∙_}
+use mathlib.Core.Path.{_≡_, refl, sym, ap, _∙_}
 use mathlib.Core.List.{List, [], _∷_}
 use mathlib.Core.Bool.{Bool, true, false, _&&_, _||_, not, or-true}
 use lib.Dec.{leb, ltb, eqb}
 use native.Mathlib.Nat.{mul-le-mul-right}
 use native.Mathlib.Omega.{arith}
-use borrow.Author.Tests.{leb-true, ltb-true, eqb-true, not-true}
+use borrow.Author.Tests.{leb-true, ltb-true, eqb-true, lt-ltb, le-leb, not-true}
 use Rattle.base.specs.Lists.{All}
 use Rattle.base.proofs.TestLaws.{and-left, and-right, or-other, Tested, holds, fails, test}
 use Rattle.base.proofs.ChainLaws.{each-holds}
@@ -27,7 +27,7 @@ brief c h t0 last few most ends =
     omega arith
 
 module _ (s : Slot) where
-  abbrev within : ℕ → Bool
+  abbrev pub within : ℕ → Bool
   within level = levelWithin (customersAt (s .figures) level) (halvesAt (s .figures) level) (s .last - s .head .t0)
 
   -- the tests of an open slot, after that of its head
@@ -77,6 +77,20 @@ module _ (s : Slot) where
 
   pub open-none-above : openSound s ≡ true → figuresAbove (levelOf (s .head .voltage)) (s .figures) ≡ false
   open-none-above o = not-true _ (open-tests o .1 .1 .1 .1 .1 .1 .1 .1 .0)
+
+  -- where a test fails the slot is not sound as an open one
+  pub not-open : (openSound s ≡ true → ⊥) → false ≡ openSound s
+  not-open n = go (test (openSound s))
+    where
+      go : Tested (openSound s) → false ≡ openSound s
+      go (holds o) = absurd (n o)
+      go (fails f) = sym f
+
+  -- where all tests before the last hold, the last decides
+  pub last-decides : headListed (s .head) ≡ true → s .head .t0 < 527040 → s .head .t0 ≤ s .last → s .last ≤ 600000 → s .steps ≤ 64 → within 0 ≡ true → within 1 ≡ true → within 2 ≡ true → figuresAbove (levelOf (s .head .voltage)) (s .figures) ≡ false → (ltb 0 (s .steps) || (eqb (s .last) (s .head .t0) && noCustomers (s .figures))) ≡ openSound s
+  unfolding openSound
+  last-decides known begins order ends few nn vn vvn none =
+      sym (λ i. known i && lt-ltb (s .head .t0) 527040 begins i && le-leb (s .head .t0) (s .last) order i && le-leb (s .last) 600000 ends i && le-leb (s .steps) 64 few i && nn i && vn i && vvn i && not (none i) && (ltb 0 (s .steps) || (eqb (s .last) (s .head .t0) && noCustomers (s .figures))))
 
   -- no step taken: the last time is T0, and the largest counts are 0
   pub open-untouched : openSound s ≡ true → s .steps ≡ 0 → (s .last ≡ s .head .t0) × (noCustomers (s .figures) ≡ true)
@@ -177,3 +191,12 @@ free-is-free = refl
 pub free-sound : slotSound freeSlot ≡ true
 unfolding slotSound
 free-sound = ap (λ t. t || openSound freeSlot) free-is-free
+
+-- a free slot is sound; any other is sound just where it is as an open one
+pub free-decides : (s : Slot) → isFree s ≡ true → slotSound s ≡ true
+unfolding slotSound
+free-decides s e = ap (λ t. t || openSound s) e
+
+pub open-decides : (s : Slot) → isFree s ≡ false → slotSound s ≡ openSound s
+unfolding slotSound
+open-decides s e = ap (λ t. t || openSound s) e

@@ -20,16 +20,6 @@ pub struct Slot {
     pub figures: Figures,
 }
 
-// The minutes from one time to another, 0 where the second is earlier.
-fn minutes_between(start: u32, end: u32) -> u32
-    ensures { λ r. ⌜ r ≡ end - start ⌝ }
-{
-    if end < start {
-        return 0;
-    }
-    end - start
-}
-
 // Whether all customers, or all half minutes, are zero.
 fn no_customers(f: Figures) -> bool
     ensures { λ r. ⌜ r ≡ noCustomers f ⌝ }
@@ -102,48 +92,65 @@ impl Slot {
         }
     }
 
-    // Whether the slot holds zeros only.
+    // Whether the slot holds zeros only. The figures are looked at only where all else is zero.
     pub fn is_free(self) -> bool
         ensures { λ r. ⌜ r ≡ isFree self ⌝ }
     {
         let head = self.head;
         let f = self.figures;
-        (head.number == 0)
+        let unbegun = (head.number == 0)
             & (head.typ == 0)
             & (head.voltage == 0)
             & (head.cause == 0)
             & (head.t0 == 0)
             & (self.last == 0)
-            & (self.steps == 0)
-            & no_customers(f)
-            & no_halves(f)
+            & (self.steps == 0);
+        if !unbegun {
+            return false;
+        }
+        if !no_customers(f) {
+            return false;
+        }
+        no_halves(f)
     }
 
-    // Whether the slot is sound as an open one.
-    fn open_sound(self) -> bool
+    // Whether the slot is sound as an open one. The first test that fails decides.
+    pub fn open_sound(self) -> bool
         ensures { λ r. ⌜ r ≡ openSound self ⌝ }
     {
         let head = self.head;
         let f = self.figures;
         let c = f.customers;
         let h = f.halves;
-        let minutes = minutes_between(head.t0, self.last);
-        head.listed()
-            & (head.t0 < 527040)
-            & (head.t0 <= self.last)
-            & (self.last <= 600000)
-            & (self.steps <= 64)
-            & level_within(c[0], h[0], minutes)
-            & level_within(c[1], h[1], minutes)
-            & level_within(c[2], h[2], minutes)
-            & !limits::figures_above(f, codes::level_of(head.voltage))
-            & ((0 < self.steps) | ((self.last == head.t0) & no_customers(f)))
+        if !head.listed() {
+            return false;
+        }
+        if (527040 <= head.t0) | (self.last < head.t0) | (600000 < self.last) | (64 < self.steps) {
+            return false;
+        }
+        let minutes = self.last - head.t0;
+        if !level_within(c[0], h[0], minutes) {
+            return false;
+        }
+        if !level_within(c[1], h[1], minutes) {
+            return false;
+        }
+        if !level_within(c[2], h[2], minutes) {
+            return false;
+        }
+        if limits::figures_above(f, codes::level_of(head.voltage)) {
+            return false;
+        }
+        (0 < self.steps) | ((self.last == head.t0) & no_customers(f))
     }
 
-    // Whether the slot is sound.
+    // Whether the slot is sound. Of a free one nothing more is asked.
     pub fn sound(self) -> bool
         ensures { λ r. ⌜ r ≡ slotSound self ⌝ }
     {
-        self.is_free() | self.open_sound()
+        if self.is_free() {
+            return true;
+        }
+        self.open_sound()
     }
 }

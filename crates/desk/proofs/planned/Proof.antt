@@ -1,21 +1,28 @@
 -- `desk::planned` meets its contract: a walk of its MIR, by hand, of six calls in a row and no branch. All that it knows of the callees is that each meets its contract; what they come to is `plan-is`.
+-- The numbers lie in a local, an array; it is lent whole as a slice for a lifetime of the call of `enter_all`, and comes back with the numbers of the roll.
 -- The three slices are Copy: what each owns is had twice before a call that takes it, at its own lifetime and share. What the plain values own is never carried: their relations make it anew.
 -- Assumes nothing.
 use mathlib.Core.Path.{_≡_, refl, ap, subst}
 use Prim.Native.Nat.{ℕ, _<_, _^_}
 use mathlib.Core.List.{List, [], _∷_}
-use lib.ListN.{length, getD}
-use mir.Syntax.{named, w64, tyInt}
+use mathlib.Core.Bool.{Bool}
+use lib.ListN.{length, getD, replicate}
+use native.Mathlib.Omega.{arith}
+use mir.Syntax.{named, w16, w64, tyInt, tyBool}
 use mir.Val.{Val, vint}
 use base.Logic.{SProp, ent, emp, via, fst∗, snd∗, exE, id⊢}
-use base.Fml.{Lft, Share, Fml, ftrue, fat, flft}
+use base.Fml.{Lft, GName, Share, Fml, ftrue, fat, flft, flent}
 use prog.Wp.{Heap, Calls, Loops, WpFn, Tables}
-use types.Kit.{Given, ‵, raw, _⊛_, some, later, ⋆, _$_, _∵_, !, qed, by, move, drop, group, use0, use1, use2, split, join, pick, rewrite, fsplit, fjoin, suffices, frame, await, done}
-use types.Part.{whole, sub, look-in}
-use types.Run.{look, init, store, forget, stop, fld, from, load, of-opd, and-then, no-more, assigns, land, returns, enter, alloc1, alloc0, params1, pass1, pass0, free1, free0}
-use denote.Plain.{uint-makes, uint-lawful}
-use denote.Builtin.{u8, usize}
-use denote.Slice.{sliceVal, ShrSlice, Room, slice-vals, shr-slice-tells, shr-slice-copy}
+use types.Kit.{Given, ‵, raw, given, _⊛_, some, later, ⋆, _$_, _∵_, !, qed, by, move, drop, group, use0, use1, use2, use3, split, join, learn, pick, rewrite, fsplit, fjoin, suffices, frame, await, done}
+use types.Part.{agg, rep, whole, sub, look-in}
+use types.Run.{look, init, store, forget, stop, fld, from, load, lit, addr, of-opd, and-then, no-more, assigns, land, returns, enter, alloc1, alloc0, params1, pass1, pass0, free1, free0}
+use types.Tokens.{lft-new, lft-end}
+use denote.Array.{Array, array-vals, array-makes, array-lawful, array-repeat}
+use denote.Memory.{partAt, cellAt}
+use denote.Plain.{uint-vals, uint-tells, uint-makes, uint-lawful, uint-copy, bool-vals, bool-tells, bool-makes, bool-lawful}
+use denote.Builtin.{u8, u16, usize, bool}
+use denote.Lend.{Held}
+use denote.Slice.{sliceVal, MutSlice, ShrSlice, Room, finally, slice-vals, shr-slice-tells, shr-slice-copy}
 use denote.Steps.{only, owned, facts, heard, nothing}
 use denote.Struct.Laws as LL
 use denote.Triple.Walked.{says, Stays, stay-none, stay-none-slice, walkOf, goes-none, goes-none-slice, Walks, ends-at, walked, walk-meets}
@@ -27,8 +34,8 @@ use ghost.Atoms.{Atoms, sem}
 use contract.Monad.{Fun, fact}
 use contract.Running.{givenOf, tables, tablesOf}
 use sound.WpLaws.{FmC, fmOf, WpFn-mono}
-use denote.RattleType.{owns}
-use denote.Laws.{Is, shows}
+use denote.RattleType.{RattleType, owns}
+use denote.Laws.{Is, Typed, shows}
 use denote.Ref.{RefT}
 use denote.Signature.{plain}
 use denote.Exit.{yes}
@@ -44,22 +51,23 @@ use Rattle.slot.specs.Slot.{freeSlot}
 use Rattle.slot.proofs.Slot as TSlot
 use Rattle.slot.proofs.Slot.Laws as TSlot′
 use Rattle.roll.specs.declared.Roll.{Roll}
-use Rattle.roll.specs.Roll.{noRoll, rolled, rollOf, placeNamed}
+use Rattle.roll.specs.Roll.{rollBy, rollOf, placeNamed}
 use Rattle.roll.proofs.Roll.Laws as TRoll′
 use Rattle.plan.specs.declared.Plan.{Plan}
 use Rattle.plan.specs.Plan.{planBy}
 use Rattle.plan.proofs.Plan.Laws as TPlan′
 use Rattle.plan.proofs.ServeLaws.{plan-is}
-use Rattle.desk.proofs.SlotLaws.{R, vals, tells, slot-makes}
+use Rattle.desk.proofs.ArrayLend.{cell-in, cell-out, lends-whole, whole-back}
+use Rattle.desk.proofs.SlotLaws.{R, vals, tells, ty-at, slot-makes}
 use Rattle.desk.proofs.Rows.{RollR, LedgerR, PlanR, roll-vals, roll-tells, roll-makes, roll-typed, ledger-mach, ledger-vals, ledger-tells, ledger-makes, ledger-typed, plan-mach, plan-vals, plan-tells, plan-makes, plan-typed}
-use Rattle.roll.proofs.Roll.begin as begin
-use Rattle.roll.proofs.Roll.begin.Symbol as begin-def
-use Rattle.roll.proofs.Roll.begin.Symbol.{name as #roll·Roll·begin}
-use Rattle.roll.proofs.Roll.begin.Met as begin-thm
-use Rattle.desk.proofs.roll_of as roll-of
-use Rattle.desk.proofs.roll_of.Symbol as roll-of-def
-use Rattle.desk.proofs.roll_of.Symbol.{name as #desk·roll-of}
-use Rattle.desk.proofs.roll_of.Met as roll-of-thm
+use Rattle.desk.proofs.enter_all as enter-all
+use Rattle.desk.proofs.enter_all.Symbol as enter-all-def
+use Rattle.desk.proofs.enter_all.Symbol.{name as #desk·enter-all}
+use Rattle.desk.proofs.enter_all.Met as enter-all-thm
+use Rattle.roll.proofs.Roll.by as by-roll
+use Rattle.roll.proofs.Roll.by.Symbol as by-roll-def
+use Rattle.roll.proofs.Roll.by.Symbol.{name as #roll·Roll·by}
+use Rattle.roll.proofs.Roll.by.Met as by-roll-thm
 use Rattle.roll.proofs.Roll.named as named-roll
 use Rattle.roll.proofs.Roll.named.Symbol as named-roll-def
 use Rattle.roll.proofs.Roll.named.Symbol.{name as #roll·Roll·named}
@@ -80,17 +88,31 @@ use Rattle.desk.proofs.planned.Key.{name as #desk·planned}
 use Rattle.desk.proofs.planned as planned
 use Rattle.desk.proofs.planned.Statement as stated
 use Rattle.desk.proofs.planned.Code as code
+use Rattle.desk.proofs.planned.Code.Mir as body
+
+abbrev R32 : RattleType
+R32 = Array u16 32
+
+abbrev avals : List ℕ → List Val
+avals ns = array-vals (uint-vals w16) ns
+
+abbrev amach : List ℕ → Val
+amach ns = only (avals ns)
+
+-- the numbers before the first slot
+abbrev zeros : List ℕ
+zeros = replicate 32 0
 
 abbrev stayed : Stays (planned.ended .signature .params) (planned.ended .kept)
 stayed = (stay-none-slice (0 ∷ []) tt (plain (λ _. R)) yes, (stay-none (λ _. LedgerR) yes, (stay-none-slice (1 ∷ []) tt (plain (λ _. u8)) yes, (stay-none-slice (2 ∷ []) tt (plain (λ _. u8)) yes, tt))))
 
 module _ {M : Type 1} (𝓤 : URA M) (H : Heap 𝓤) (A : Atoms 𝓤) (mem : Memory → SProp 𝓤) (run : Routine → Fun 𝓤) where
   -- the contracts that the proof cites
-  abbrev Begin : Contract 𝓤
-  Begin = tripleOf 𝓤 H A begin.signature (begin.spec 𝓤 H A mem run)
+  abbrev EnterAll : Contract 𝓤
+  EnterAll = tripleOf 𝓤 H A enter-all.signature (enter-all.spec 𝓤 H A mem run)
 
-  abbrev RollOf : Contract 𝓤
-  RollOf = tripleOf 𝓤 H A roll-of.signature (roll-of.spec 𝓤 H A mem run)
+  abbrev By : Contract 𝓤
+  By = tripleOf 𝓤 H A by-roll.signature (by-roll.spec 𝓤 H A mem run)
 
   abbrev Named : Contract 𝓤
   Named = tripleOf 𝓤 H A named-roll.signature (named-roll.spec 𝓤 H A mem run)
@@ -104,12 +126,9 @@ module _ {M : Type 1} (𝓤 : URA M) (H : Heap 𝓤) (A : Atoms 𝓤) (mem : Mem
   abbrev Decide : Contract 𝓤
   Decide = tripleOf 𝓤 H A decide.signature (decide.spec 𝓤 H A mem run)
 
-  -- of each callee's `ensured`, the clause alone: none has a last value
-  begin-said : (r : Roll) → ent 𝓤 (ensured 𝓤 H A begin.ended (begin.clauses 𝓤 H A mem run) tt tt tt r) (fact 𝓤 (r ≡ noRoll))
-  begin-said r = exE 𝓤 _ (λ ws. snd∗ 𝓤 (sem 𝓤 H A (lasts begin.ended tt tt ws)) (fact 𝓤 (r ≡ noRoll)))
-
-  roll-said : (κ : Lft) (d : RefT (List Slot)) (a : Roll) (r : Roll) → ent 𝓤 (ensured 𝓤 H A roll-of.ended (roll-of.clauses 𝓤 H A mem run) (κ, tt) (d, (a, tt)) tt r) (fact 𝓤 (r ≡ rolled a 0 (d .now)))
-  roll-said κ d a r = exE 𝓤 _ (λ ws. snd∗ 𝓤 (sem 𝓤 H A (lasts roll-of.ended (κ, tt) (d, (a, tt)) ws)) (fact 𝓤 (r ≡ rolled a 0 (d .now))))
+  -- of the `ensured` of each callee but the first, the clause alone: none of these has a last value
+  by-said : (x : Bool) (ns : List ℕ) (r : Roll) → ent 𝓤 (ensured 𝓤 H A by-roll.ended (by-roll.clauses 𝓤 H A mem run) tt (x, (ns, tt)) tt r) (fact 𝓤 (r ≡ rollBy x ns))
+  by-said x ns r = exE 𝓤 _ (λ ws. snd∗ 𝓤 (sem 𝓤 H A (lasts by-roll.ended tt (x, (ns, tt)) ws)) (fact 𝓤 (r ≡ rollBy x ns)))
 
   named-said : (κ : Lft) (a : Roll) (s : RefT (List ℕ)) (r : ℕ) → ent 𝓤 (ensured 𝓤 H A named-roll.ended (named-roll.clauses 𝓤 H A mem run) (κ, tt) (a, (s, tt)) tt r) (fact 𝓤 (r ≡ placeNamed a (s .now)))
   named-said κ a s r = exE 𝓤 _ (λ ws. snd∗ 𝓤 (sem 𝓤 H A (lasts named-roll.ended (κ, tt) (a, (s, tt)) ws)) (fact 𝓤 (r ≡ placeNamed a (s .now))))
@@ -157,6 +176,19 @@ module _ {M : Type 1} (𝓤 : URA M) (H : Heap 𝓤) (A : Atoms 𝓤) (W : Given
   abbrev roll : Roll
   roll = rollOf (d .now)
 
+  -- the slice that the numbers are lent as, from the block b
+  abbrev e : ℕ → GName → RefT (List ℕ)
+  e b γ = record { ptr = (b, 0); name = γ; now = zeros }
+
+  abbrev v : ℕ → Val
+  v b = sliceVal (b, 0) 32
+
+  room : Room u16 32
+  room = (omega arith, omega arith)
+
+  typed : (ns : List ℕ) → Is R32 ns (avals ns) → Typed (R32 .mir) (avals ns)
+  typed ns g = array-lawful 𝓤 H A W u16 (uint-lawful 𝓤 H A W w16) 32 .typed ns (avals ns) g
+
   abbrev i : ℕ
   i = placeNamed roll (s .now)
 
@@ -176,19 +208,19 @@ module _ {M : Type 1} (𝓤 : URA M) (H : Heap 𝓤) (A : Atoms 𝓤) (W : Given
       nothing ! $ move ! (3 ∷ 0 ∷ []) $ join ! $ move ! (2 ∷ 0 ∷ []) $ join ! $ move ! (1 ∷ 0 ∷ []) $ join ! $ frame ! $ nothing ! $ move ! (3 ∷ 0 ∷ []) $ fjoin ! $ move ! (2 ∷ 0 ∷ []) $ fjoin ! $ owned ! LedgerR (Is LedgerR) (ledger-makes 𝓤 H A W) l _ gl $ fjoin ! $ move ! (1 ∷ 0 ∷ []) $ fjoin ! $ frame ! $ owned ! PlanR (Is PlanR) (plan-makes 𝓤 H A W) p _ g $ done !
 
   -- what each callee's triple binds outside, and that the caller has what it asks
-  abbrev to-begin : Begin 𝓤 H A mem run .Ghost
-  to-begin = ((tt, tt, tt, tt, tt), tt)
+  abbrev to-enter-all : ℕ → ℕ → GName → EnterAll 𝓤 H A mem run .Ghost
+  to-enter-all ν b γ = (((κ₀, (ν ∷ [], tt)), (q₀, (fullShare, tt)), tt, (d, (e b γ, tt)), (v₀ ∷ [], (v b ∷ [], tt))), tt)
 
-  goes-begin : ent 𝓤 (⋆ 𝓤 H A []) (Begin 𝓤 H A mem run .pre to-begin)
-  goes-begin =
-      qed W [] ∵ nothing ! $ nothing ! $ move ! (1 ∷ 0 ∷ []) $ join ! $ frame ! $ done !
+  goes-enter-all : (ν b : ℕ) (γ : GName) → ent 𝓤 (⋆ 𝓤 H A (‵ (flft κ₀ q₀) ∷ ‵ (flft (ν ∷ []) fullShare) ∷ ‵ Own₀ ∷ ‵ (MutSlice (named 1) (ν ∷ []) u16 .own (e b γ) (v b ∷ [])) ∷ [])) (EnterAll 𝓤 H A mem run .pre (to-enter-all ν b γ))
+  goes-enter-all ν b γ =
+      qed W (‵ (flft κ₀ q₀) ∷ ‵ (flft (ν ∷ []) fullShare) ∷ ‵ Own₀ ∷ ‵ (MutSlice (named 1) (ν ∷ []) u16 .own (e b γ) (v b ∷ [])) ∷ []) ∵ nothing ! $ move ! (2 ∷ 0 ∷ []) $ join ! $ move ! (1 ∷ 0 ∷ []) $ join ! $ nothing ! $ move ! (3 ∷ 0 ∷ []) $ fjoin ! $ move ! (2 ∷ 0 ∷ []) $ fjoin ! $ move ! (1 ∷ 0 ∷ []) $ join ! $ frame ! $ done !
 
-  abbrev to-roll-of : RollOf 𝓤 H A mem run .Ghost
-  to-roll-of = (((κ₀, tt), (q₀, tt), tt, (d, (noRoll, tt)), (v₀ ∷ [], (roll-vals noRoll, tt))), tt)
+  abbrev to-by-roll : By 𝓤 H A mem run .Ghost
+  to-by-roll = ((tt, tt, tt, (roll .sound, (roll .numbers, tt)), (bool-vals (roll .sound), (avals (roll .numbers), tt))), tt)
 
-  goes-roll-of : Is RollR noRoll (roll-vals noRoll) → ent 𝓤 (⋆ 𝓤 H A (‵ (flft κ₀ q₀) ∷ ‵ Own₀ ∷ [])) (RollOf 𝓤 H A mem run .pre to-roll-of)
-  goes-roll-of g =
-      qed W (‵ (flft κ₀ q₀) ∷ ‵ Own₀ ∷ []) ∵ nothing ! $ move ! (1 ∷ 0 ∷ []) $ join ! $ nothing ! $ owned ! RollR (Is RollR) (roll-makes 𝓤 H A W) noRoll _ g $ fjoin ! $ move ! (2 ∷ 0 ∷ []) $ fjoin ! $ move ! (1 ∷ 0 ∷ []) $ join ! $ frame ! $ done !
+  goes-by-roll : Is bool (roll .sound) (bool-vals (roll .sound)) → Is R32 (roll .numbers) (avals (roll .numbers)) → ent 𝓤 (⋆ 𝓤 H A []) (By 𝓤 H A mem run .pre to-by-roll)
+  goes-by-roll gb gn =
+      qed W [] ∵ nothing ! $ nothing ! $ owned ! R32 (Is R32) (array-makes 𝓤 H A W u16 (uint-makes 𝓤 H A W w16) 32) (roll .numbers) _ gn $ fjoin ! $ owned ! bool (Is bool) (bool-makes 𝓤 H A W) (roll .sound) _ gb $ fjoin ! $ move ! (1 ∷ 0 ∷ []) $ join ! $ frame ! $ done !
 
   abbrev to-named-roll : Named 𝓤 H A mem run .Ghost
   to-named-roll = (((κ₂, tt), (q₂, tt), tt, (roll, (s, tt)), (roll-vals roll, (v₂ ∷ [], tt))), tt)
@@ -218,82 +250,97 @@ module _ {M : Type 1} (𝓤 : URA M) (H : Heap 𝓤) (A : Atoms 𝓤) (W : Given
   goes-decide gr gs =
       qed W (‵ (flft κ₁ q₁) ∷ ‵ (flft κ₂ q₂) ∷ ‵ Own₁ ∷ ‵ Own₂ ∷ []) ∵ nothing ! $ move ! (2 ∷ 0 ∷ []) $ join ! $ move ! (1 ∷ 0 ∷ []) $ join ! $ nothing ! $ move ! (3 ∷ 0 ∷ []) $ fjoin ! $ move ! (2 ∷ 0 ∷ []) $ fjoin ! $ owned ! LedgerR (Is LedgerR) (ledger-makes 𝓤 H A W) l _ gl $ fjoin ! $ owned ! R (Is R) (slot-makes 𝓤 H A W) slot _ gs $ fjoin ! $ owned ! RollR (Is RollR) (roll-makes 𝓤 H A W) roll _ gr $ fjoin ! $ owned ! usize (Is usize) (uint-makes 𝓤 H A W w64) (length (d .now)) _ (refl, room₀ .0) $ fjoin ! $ move ! (1 ∷ 0 ∷ []) $ join ! $ frame ! $ done !
 
-  module _ (C : Calls 𝓤 H) (Λ : Loops 𝓤 H) (fm : FmC 𝓤 H (W .laws) C) (known-begin : Triple 𝓤 (C #roll·Roll·begin) (Begin 𝓤 H A mem run)) (known-roll-of : Triple 𝓤 (C #desk·roll-of) (RollOf 𝓤 H A mem run)) (known-named-roll : Triple 𝓤 (C #roll·Roll·named) (Named 𝓤 H A mem run)) (known-free : Triple 𝓤 (C #slot·Slot·free) (Free 𝓤 H A mem run)) (known-slot-at : Triple 𝓤 (C #desk·slot-at) (SlotAt 𝓤 H A mem run)) (known-decide : Triple 𝓤 (C #plan·decide) (Decide 𝓤 H A mem run)) where
+  module _ (C : Calls 𝓤 H) (Λ : Loops 𝓤 H) (fm : FmC 𝓤 H (W .laws) C) (known-enter-all : Triple 𝓤 (C #desk·enter-all) (EnterAll 𝓤 H A mem run)) (known-by-roll : Triple 𝓤 (C #roll·Roll·by) (By 𝓤 H A mem run)) (known-named-roll : Triple 𝓤 (C #roll·Roll·named) (Named 𝓤 H A mem run)) (known-free : Triple 𝓤 (C #slot·Slot·free) (Free 𝓤 H A mem run)) (known-slot-at : Triple 𝓤 (C #desk·slot-at) (SlotAt 𝓤 H A mem run)) (known-decide : Triple 𝓤 (C #plan·decide) (Decide 𝓤 H A mem run)) where
     walk : ent 𝓤 (onEntry 𝓤 H A planned.signature (κ₀, (κ₁, (κ₂, tt))) (q₀, (q₁, (q₂, tt))) a at) (WpFn 𝓤 H C Λ code.function (v₀ ∷ ledger-mach l ∷ v₁ ∷ v₂ ∷ []) Post)
     walk =
         qed W ((‵ (flft κ₀ q₀) ⊛ ‵ (flft κ₁ q₁) ⊛ ‵ (flft κ₂ q₂) ⊛ ‵ ftrue) ∷ ‵ (owns (ShrSlice (named 0) κ₀ R ∷ LedgerR ∷ ShrSlice (named 1) κ₁ u8 ∷ ShrSlice (named 2) κ₂ u8 ∷ []) a at) ∷ []) ∵
         enter ! C Λ code.function (v₀ ∷ ledger-mach l ∷ v₁ ∷ v₂ ∷ []) _ $
-        alloc1 ! (λ l₀. alloc1 ! (λ l₁. alloc1 ! (λ l₂. alloc1 ! (λ l₃. alloc1 ! (λ l₄. alloc1 ! (λ l₅. alloc1 ! (λ l₆. alloc1 ! (λ l₇. alloc1 ! (λ l₈. alloc1 ! (λ l₉. alloc0 ! $ params1 ! $
-        pass1 ! (init ! 16 refl (tt, (tt, (record { fits = room₀ .0 }, tt)))) $ pass1 ! (init ! 14 refl (ledger-typed 𝓤 H A W l _ gl)) $ pass1 ! (init ! 12 refl (tt, (tt, (record { fits = room₁ .0 }, tt)))) $ pass1 ! (init ! 10 refl (tt, (tt, (record { fits = room₂ .0 }, tt)))) $ pass0 ! $
-        move ! (21 ∷ []) $ fsplit ! $ move ! (1 ∷ []) $ fsplit ! $ drop ! $ fsplit ! $ move ! (1 ∷ []) $ fsplit ! $ move ! (1 ∷ []) $ drop ! $ move ! (23 ∷ []) $ split ! $ move ! (1 ∷ []) $ split ! $ move ! (1 ∷ []) $ split ! $ move ! (1 ∷ []) $ drop ! $ move ! (2 ∷ 1 ∷ 0 ∷ 5 ∷ 4 ∷ 3 ∷ []) $
-        -- [the three tokens; what the three slices own; _9; …; …; _0; …]. `Roll::begin`
-        use0 W (raw (Begin 𝓤 H A mem run .pre to-begin)) goes-begin $
-        calls-at ! fm (Begin 𝓤 H A mem run) known-begin to-begin (no-more !) (λ w₁.
-        use1 W (later (some (λ (r : Roll). (‵ ftrue ⊛ ‵ (RollR .own r (w₁ ∷ []))) ⊛ raw (ensured 𝓤 H A begin.ended (begin.clauses 𝓤 H A mem run) (to-begin .0 .0) (to-begin .0 .3) tt r)))) (id⊢ 𝓤 _) $ await ! tt $ pick ! (λ r₁.
-        split ! $ move ! (1 ∷ []) $ use1 W (raw (fact 𝓤 (r₁ ≡ noRoll))) (begin-said 𝓤 H A mem run r₁) $ heard ! (r₁ ≡ noRoll) (λ e₁. split ! $ drop ! $ rewrite ! 0 (λ (r : Roll). ‵ (RollR .own r (w₁ ∷ []))) e₁ refl $ facts ! RollR (Is RollR) (shows 𝓤 H A RollR) noRoll (w₁ ∷ []) (λ is₁.
-        land ! (from ! (stop !)) (init ! 10 refl (roll-typed 𝓤 H A W noRoll _ is₁)) $ rewrite ! 10 (λ (u : Val). ‵ (fat fullShare TRoll′.mir l₇ 0 u)) (ap only (roll-tells noRoll _ is₁)) refl $
-        -- `roll_of`
-        move ! (3 ∷ []) $ use1 W (‵ Own₀ ⊛ ‵ Own₀) (shr-slice-copy 𝓤 H A W (named 0) κ₀ R .twice d (v₀ ∷ [])) $ split ! $ move ! (2 ∷ 0 ∷ []) $ use2 W (raw (RollOf 𝓤 H A mem run .pre to-roll-of)) (goes-roll-of (subst (Is RollR noRoll) (roll-tells noRoll _ is₁) is₁)) $
-        calls-at ! fm (RollOf 𝓤 H A mem run) known-roll-of to-roll-of (and-then ! (load ! (from ! (stop !)) (look ! 22 refl)) (and-then ! (load ! (from ! (stop !)) (look ! 10 refl)) (no-more !))) (λ w₂.
-        use1 W (later (some (λ (r : Roll). ((‵ (flft κ₀ q₀) ⊛ ‵ ftrue) ⊛ ‵ (RollR .own r (w₂ ∷ []))) ⊛ raw (ensured 𝓤 H A roll-of.ended (roll-of.clauses 𝓤 H A mem run) (to-roll-of .0 .0) (to-roll-of .0 .3) tt r)))) (id⊢ 𝓤 _) $ await ! tt $ pick ! (λ r₂.
-        split ! $ move ! (1 ∷ []) $ use1 W (raw (fact 𝓤 (r₂ ≡ roll))) (roll-said 𝓤 H A mem run κ₀ d noRoll r₂) $ heard ! (r₂ ≡ roll) (λ e₂. split ! $ move ! (1 ∷ []) $ rewrite ! 0 (λ (r : Roll). ‵ (RollR .own r (w₂ ∷ []))) e₂ refl $ facts ! RollR (Is RollR) (shows 𝓤 H A RollR) (roll) (w₂ ∷ []) (λ is₂.
-        land ! (from ! (stop !)) (init ! 14 refl (roll-typed 𝓤 H A W roll _ is₂)) $ rewrite ! 14 (λ (u : Val). ‵ (fat fullShare TRoll′.mir l₅ 0 u)) (ap only (roll-tells roll _ is₂)) refl $ split ! $ move ! (1 ∷ []) $ drop ! $
+        alloc1 ! (λ l₀. alloc1 ! (λ l₁. alloc1 ! (λ l₂. alloc1 ! (λ l₃. alloc1 ! (λ l₄. alloc1 ! (λ l₅. alloc1 ! (λ l₆. alloc1 ! (λ l₇. alloc1 ! (λ l₈. alloc1 ! (λ l₉. alloc1 ! (λ l₁₀. alloc1 ! (λ l₁₁. alloc1 ! (λ l₁₂. alloc1 ! (λ l₁₃. alloc0 ! $ params1 ! $
+        pass1 ! (init ! 24 refl (tt, (tt, (record { fits = room₀ .0 }, tt)))) $ pass1 ! (init ! 22 refl (ledger-typed 𝓤 H A W l _ gl)) $ pass1 ! (init ! 20 refl (tt, (tt, (record { fits = room₁ .0 }, tt)))) $ pass1 ! (init ! 18 refl (tt, (tt, (record { fits = room₂ .0 }, tt)))) $ pass0 ! $
+        move ! (29 ∷ []) $ fsplit ! $ move ! (1 ∷ []) $ fsplit ! $ drop ! $ fsplit ! $ move ! (1 ∷ []) $ fsplit ! $ move ! (1 ∷ []) $ drop ! $ move ! (31 ∷ []) $ split ! $ move ! (1 ∷ []) $ split ! $ move ! (1 ∷ []) $ split ! $ move ! (1 ∷ []) $ drop ! $ move ! (2 ∷ 1 ∷ 0 ∷ 5 ∷ 4 ∷ 3 ∷ []) $
+        -- [the three tokens; what the three slices own; _13; …; …; _0; …]. The numbers, and `enter_all`: they are lent as a slice, for a lifetime ν of the call
+        owned ! u16 (Is u16) (uint-makes 𝓤 H A W w16) 0 (vint w16 0 ∷ []) (refl, omega arith) $ use1 W (‵ (R32 .own zeros (avals zeros))) (array-repeat 𝓤 H A W u16 (uint-copy 𝓤 H A W w16) 32 0 (vint w16 0)) $ facts ! R32 (Is R32) (shows 𝓤 H A R32) zeros (avals zeros) (λ g₀.
+        assigns ! (rep ! 32 (lit ! tt)) (from ! (stop !)) (init ! 22 refl (typed zeros g₀ .0)) $
+        assigns ! (addr ! (from ! (stop !))) (from ! (stop !)) (init ! 14 refl (tt, tt)) $
+        assigns ! (agg ! (and-then ! (load ! (from ! (stop !)) (look ! 14 refl)) (and-then ! (lit ! tt) (no-more !)))) (from ! (stop !)) (init ! 12 refl (tt, (tt, (record { fits = room .0 }, tt)))) $
+        move ! (22 ∷ []) $ use1 W (‵ (cellAt fullShare (R32 .mir) (avals zeros) l₅ 0)) (W .laws .at-raw fullShare (ty-at 5 body.locals) l₅ 0 (amach zeros)) $ use1 W (‵ (partAt R32 fullShare zeros l₅ 0)) (cell-in u16 32 𝓤 H A W l₅ 0 (uint-vals w16) (uint-makes 𝓤 H A W w16) zeros g₀) $
+        lft-new ! tt (λ ν. move ! (1 ∷ []) $ use1 W (later (some (λ (γ : GName). ‵ (MutSlice (named 1) (ν ∷ []) u16 .own (e l₅ γ) (v l₅ ∷ [])) ⊛ ‵ (flent (ν ∷ []) (Held u16 32 l₅ 0 γ))))) (lends-whole u16 32 𝓤 H A W l₅ 0 tt (named 1) (ν ∷ []) zeros room) $ await ! tt $ pick ! (λ γ. split ! $
+        move ! (6 ∷ []) $ use1 W (‵ Own₀ ⊛ ‵ Own₀) (shr-slice-copy 𝓤 H A W (named 0) κ₀ R .twice d (v₀ ∷ [])) $ split ! $ move ! (5 ∷ 4 ∷ 0 ∷ 2 ∷ []) $ group ! 4 $ use1 W (raw (EnterAll 𝓤 H A mem run .pre (to-enter-all ν l₅ γ))) (goes-enter-all ν l₅ γ) $
+        calls-at ! fm (EnterAll 𝓤 H A mem run) known-enter-all (to-enter-all ν l₅ γ) (and-then ! (load ! (from ! (stop !)) (look ! 30 refl)) (and-then ! (load ! (from ! (stop !)) (look ! 13 refl)) (no-more !))) (λ w₁.
+        use1 W (later (some (λ (r : Bool). ((‵ (flft κ₀ q₀) ⊛ ‵ (flft (ν ∷ []) fullShare) ⊛ ‵ ftrue) ⊛ ‵ (bool .own r (w₁ ∷ []))) ⊛ raw (ensured 𝓤 H A enter-all.ended (enter-all.clauses 𝓤 H A mem run) ((to-enter-all ν l₅ γ) .0 .0) ((to-enter-all ν l₅ γ) .0 .3) tt r)))) (id⊢ 𝓤 _) $ await ! tt $ pick ! (λ r₁.
+        split ! $ move ! (1 ∷ []) $ use1 W (some (λ (zs : Unit {0} × (List ℕ × Unit {0})). ‵ (lasts enter-all.ended ((to-enter-all ν l₅ γ) .0 .0) ((to-enter-all ν l₅ γ) .0 .3) zs) ⊛ raw (fact 𝓤 ((r₁ ≡ roll .sound) × (zs .1 .0 ≡ roll .numbers))))) (id⊢ 𝓤 _) $ pick ! (λ zs.
+        split ! $ move ! (1 ∷ []) $ heard ! ((r₁ ≡ roll .sound) × (zs .1 .0 ≡ roll .numbers)) (λ e₁.
+        fsplit ! $ drop ! $ fsplit ! $ fsplit ! $ move ! (1 ∷ []) $ drop ! $ move ! (1 ∷ []) $ drop ! $ rewrite ! 0 (λ (ns : List ℕ). ‵ (finally u16 γ ns)) (e₁ .1) refl $
+        move ! (1 ∷ []) $ split ! $ move ! (1 ∷ []) $ rewrite ! 0 (λ (r : Bool). ‵ (bool .own r (w₁ ∷ []))) (e₁ .0) refl $ facts ! bool (Is bool) (shows 𝓤 H A bool) (roll .sound) (w₁ ∷ []) (λ is₁.
+        land ! (from ! (stop !)) (init ! 22 refl (bool-lawful 𝓤 H A W .typed (roll .sound) _ is₁ .0)) $ rewrite ! 22 (λ (u : Val). ‵ (fat fullShare tyBool l₆ 0 u)) (ap only (bool-tells (roll .sound) _ is₁)) refl $
+        split ! $ move ! (1 ∷ []) $ split ! $ move ! (1 ∷ []) $ drop ! $
+        -- the local has the numbers again
+        lft-end ! tt $ move ! (0 ∷ 4 ∷ 2 ∷ []) $ use3 W (later (‵ (partAt R32 fullShare (roll .numbers) l₅ 0))) (whole-back u16 32 𝓤 H A W l₅ 0 (ν ∷ []) γ zeros (roll .numbers) refl) $ await ! tt $
+        use1 W (given (Is R32 (roll .numbers) (avals (roll .numbers))) (‵ (cellAt fullShare (R32 .mir) (avals (roll .numbers)) l₅ 0))) (cell-out u16 32 𝓤 H A W l₅ 0 (uint-vals w16) (uint-tells w16) (roll .numbers)) $ learn ! (λ g₁.
+        use1 W (‵ (fat fullShare (ty-at 5 body.locals) l₅ 0 (amach (roll .numbers)))) (W .laws .raw-at fullShare (ty-at 5 body.locals) l₅ 0 (amach (roll .numbers))) $ move ! (1 ∷ 3 ∷ 4 ∷ 2 ∷ 5 ∷ 6 ∷ []) $
+        -- [the three tokens; what the three slices own; _5; _13; …; …; _0; …]. `Roll::by`
+        assigns ! (of-opd ! (load ! (from ! (stop !)) (look ! 6 refl))) (from ! (stop !)) (init ! 11 refl (typed (roll .numbers) g₁ .0)) $
+        use0 W (raw (By 𝓤 H A mem run .pre to-by-roll)) (goes-by-roll (subst (Is bool (roll .sound)) (bool-tells (roll .sound) _ is₁) is₁) g₁) $
+        calls-at ! fm (By 𝓤 H A mem run) known-by-roll to-by-roll (and-then ! (load ! (from ! (stop !)) (look ! 22 refl)) (and-then ! (load ! (from ! (stop !)) (look ! 12 refl)) (no-more !))) (λ w₂.
+        use1 W (later (some (λ (r : Roll). (‵ ftrue ⊛ ‵ (RollR .own r (w₂ ∷ []))) ⊛ raw (ensured 𝓤 H A by-roll.ended (by-roll.clauses 𝓤 H A mem run) (to-by-roll .0 .0) (to-by-roll .0 .3) tt r)))) (id⊢ 𝓤 _) $ await ! tt $ pick ! (λ r₂.
+        split ! $ move ! (1 ∷ []) $ use1 W (raw (fact 𝓤 (r₂ ≡ roll))) (by-said 𝓤 H A mem run (roll .sound) (roll .numbers) r₂) $ heard ! (r₂ ≡ roll) (λ e₂. split ! $ drop ! $ rewrite ! 0 (λ (r : Roll). ‵ (RollR .own r (w₂ ∷ []))) e₂ refl $ facts ! RollR (Is RollR) (shows 𝓤 H A RollR) roll (w₂ ∷ []) (λ is₂.
+        land ! (from ! (stop !)) (init ! 19 refl (roll-typed 𝓤 H A W roll _ is₂)) $ rewrite ! 19 (λ (u : Val). ‵ (fat fullShare TRoll′.mir l₇ 0 u)) (ap only (roll-tells roll _ is₂)) refl $
         -- `Roll::named`
-        move ! (5 ∷ []) $ use1 W (‵ Own₂ ⊛ ‵ Own₂) (shr-slice-copy 𝓤 H A W (named 2) κ₂ u8 .twice s (v₂ ∷ [])) $ split ! $ move ! (5 ∷ 0 ∷ []) $ use2 W (raw (Named 𝓤 H A mem run .pre to-named-roll)) (goes-named-roll (subst (Is RollR roll) (roll-tells roll _ is₂) is₂)) $
-        calls-at ! fm (Named 𝓤 H A mem run) known-named-roll to-named-roll (and-then ! (load ! (from ! (stop !)) (look ! 14 refl)) (and-then ! (load ! (from ! (stop !)) (look ! 16 refl)) (no-more !))) (λ w₃.
+        move ! (5 ∷ []) $ use1 W (‵ Own₂ ⊛ ‵ Own₂) (shr-slice-copy 𝓤 H A W (named 2) κ₂ u8 .twice s (v₂ ∷ [])) $ split ! $ move ! (4 ∷ 0 ∷ []) $ use2 W (raw (Named 𝓤 H A mem run .pre to-named-roll)) (goes-named-roll (subst (Is RollR roll) (roll-tells roll _ is₂) is₂)) $
+        calls-at ! fm (Named 𝓤 H A mem run) known-named-roll to-named-roll (and-then ! (load ! (from ! (stop !)) (look ! 19 refl)) (and-then ! (load ! (from ! (stop !)) (look ! 24 refl)) (no-more !))) (λ w₃.
         use1 W (later (some (λ (r : ℕ). ((‵ (flft κ₂ q₂) ⊛ ‵ ftrue) ⊛ ‵ (usize .own r (w₃ ∷ []))) ⊛ raw (ensured 𝓤 H A named-roll.ended (named-roll.clauses 𝓤 H A mem run) (to-named-roll .0 .0) (to-named-roll .0 .3) tt r)))) (id⊢ 𝓤 _) $ await ! tt $ pick ! (λ r₃.
         split ! $ move ! (1 ∷ []) $ use1 W (raw (fact 𝓤 (r₃ ≡ i))) (named-said 𝓤 H A mem run κ₂ roll s r₃) $ heard ! (r₃ ≡ i) (λ e₃. split ! $ move ! (1 ∷ []) $ rewrite ! 0 (λ (r : ℕ). ‵ (usize .own r (w₃ ∷ []))) e₃ refl $ facts ! usize (Is usize) (shows 𝓤 H A usize) (i) (w₃ ∷ []) (λ is₃.
-        land ! (from ! (stop !)) (init ! 8 refl (uint-lawful 𝓤 H A W w64 .typed i _ is₃ .0)) $ rewrite ! 8 (λ (u : Val). ‵ (fat fullShare (tyInt w64) l₈ 0 u)) (ap only (is₃ .0)) refl $ split ! $ move ! (1 ∷ []) $ drop ! $
+        land ! (from ! (stop !)) (init ! 9 refl (uint-lawful 𝓤 H A W w64 .typed i _ is₃ .0)) $ rewrite ! 9 (λ (u : Val). ‵ (fat fullShare (tyInt w64) l₁₂ 0 u)) (ap only (is₃ .0)) refl $ split ! $ move ! (1 ∷ []) $ drop ! $
         -- `Slot::free`
         use0 W (raw (Free 𝓤 H A mem run .pre to-free)) goes-free $
         calls-at ! fm (Free 𝓤 H A mem run) known-free to-free (no-more !) (λ w₄.
         use1 W (later (some (λ (r : Slot). (‵ ftrue ⊛ ‵ (R .own r (w₄ ∷ []))) ⊛ raw (ensured 𝓤 H A free.ended (free.clauses 𝓤 H A mem run) (to-free .0 .0) (to-free .0 .3) tt r)))) (id⊢ 𝓤 _) $ await ! tt $ pick ! (λ r₄.
         split ! $ move ! (1 ∷ []) $ use1 W (raw (fact 𝓤 (r₄ ≡ freeSlot))) (free-said 𝓤 H A mem run r₄) $ heard ! (r₄ ≡ freeSlot) (λ e₄. split ! $ drop ! $ rewrite ! 0 (λ (r : Slot). ‵ (R .own r (w₄ ∷ []))) e₄ refl $ facts ! R (Is R) (shows 𝓤 H A R) freeSlot (w₄ ∷ []) (λ is₄.
-        land ! (from ! (stop !)) (init ! 6 refl (LL.lawful TSlot.the-type TSlot′.the-laws 𝓤 H A W .typed freeSlot _ is₄ .0)) $ rewrite ! 6 (λ (u : Val). ‵ (fat fullShare TSlot′.mir l₉ 0 u)) (ap only (tells freeSlot _ is₄)) refl $
+        land ! (from ! (stop !)) (init ! 7 refl (LL.lawful TSlot.the-type TSlot′.the-laws 𝓤 H A W .typed freeSlot _ is₄ .0)) $ rewrite ! 7 (λ (u : Val). ‵ (fat fullShare TSlot′.mir l₁₃ 0 u)) (ap only (tells freeSlot _ is₄)) refl $
         -- `slot_at`
-        move ! (3 ∷ []) $ use1 W (‵ Own₀ ⊛ ‵ Own₀) (shr-slice-copy 𝓤 H A W (named 0) κ₀ R .twice d (v₀ ∷ [])) $ split ! $ move ! (4 ∷ 0 ∷ []) $ use2 W (raw (SlotAt 𝓤 H A mem run .pre to-slot-at)) (goes-slot-at (is₃ .1) (subst (Is R freeSlot) (tells freeSlot _ is₄) is₄)) $
-        calls-at ! fm (SlotAt 𝓤 H A mem run) known-slot-at to-slot-at (and-then ! (load ! (from ! (stop !)) (look ! 22 refl)) (and-then ! (load ! (from ! (stop !)) (look ! 8 refl)) (and-then ! (load ! (from ! (stop !)) (look ! 6 refl)) (no-more !)))) (λ w₅.
+        move ! (4 ∷ []) $ use1 W (‵ Own₀ ⊛ ‵ Own₀) (shr-slice-copy 𝓤 H A W (named 0) κ₀ R .twice d (v₀ ∷ [])) $ split ! $ move ! (4 ∷ 0 ∷ []) $ use2 W (raw (SlotAt 𝓤 H A mem run .pre to-slot-at)) (goes-slot-at (is₃ .1) (subst (Is R freeSlot) (tells freeSlot _ is₄) is₄)) $
+        calls-at ! fm (SlotAt 𝓤 H A mem run) known-slot-at to-slot-at (and-then ! (load ! (from ! (stop !)) (look ! 30 refl)) (and-then ! (load ! (from ! (stop !)) (look ! 9 refl)) (and-then ! (load ! (from ! (stop !)) (look ! 7 refl)) (no-more !)))) (λ w₅.
         use1 W (later (some (λ (r : Slot). ((‵ (flft κ₀ q₀) ⊛ ‵ ftrue) ⊛ ‵ (R .own r (w₅ ∷ []))) ⊛ raw (ensured 𝓤 H A slot-at.ended (slot-at.clauses 𝓤 H A mem run) (to-slot-at .0 .0) (to-slot-at .0 .3) tt r)))) (id⊢ 𝓤 _) $ await ! tt $ pick ! (λ r₅.
         split ! $ move ! (1 ∷ []) $ use1 W (raw (fact 𝓤 (r₅ ≡ slot))) (at-said 𝓤 H A mem run κ₀ d i freeSlot r₅) $ heard ! (r₅ ≡ slot) (λ e₅. split ! $ move ! (1 ∷ []) $ rewrite ! 0 (λ (r : Slot). ‵ (R .own r (w₅ ∷ []))) e₅ refl $ facts ! R (Is R) (shows 𝓤 H A R) (slot) (w₅ ∷ []) (λ is₅.
-        land ! (from ! (stop !)) (init ! 12 refl (LL.lawful TSlot.the-type TSlot′.the-laws 𝓤 H A W .typed slot _ is₅ .0)) $ rewrite ! 12 (λ (u : Val). ‵ (fat fullShare TSlot′.mir l₆ 0 u)) (ap only (tells slot _ is₅)) refl $ split ! $ move ! (1 ∷ []) $ drop ! $
+        land ! (from ! (stop !)) (init ! 17 refl (LL.lawful TSlot.the-type TSlot′.the-laws 𝓤 H A W .typed slot _ is₅ .0)) $ rewrite ! 17 (λ (u : Val). ‵ (fat fullShare TSlot′.mir l₈ 0 u)) (ap only (tells slot _ is₅)) refl $ split ! $ move ! (1 ∷ []) $ drop ! $
         -- the length, and `plan::decide`
-        assigns ! (of-opd ! (load ! (from ! (fld ! refl (stop !))) (look-in ! 22 (sub ! 1 refl (whole !))))) (from ! (stop !)) (store ! 8 refl (tt, record { fits = room₀ .0 })) $
+        assigns ! (of-opd ! (load ! (from ! (fld ! refl (stop !))) (look-in ! 30 (sub ! 1 refl (whole !))))) (from ! (stop !)) (store ! 9 refl (tt, record { fits = room₀ .0 })) $
         move ! (5 ∷ []) $ use1 W (‵ Own₁ ⊛ ‵ Own₁) (shr-slice-copy 𝓤 H A W (named 1) κ₁ u8 .twice m (v₁ ∷ [])) $ split ! $ move ! (5 ∷ []) $ use1 W (‵ Own₂ ⊛ ‵ Own₂) (shr-slice-copy 𝓤 H A W (named 2) κ₂ u8 .twice s (v₂ ∷ [])) $ split ! $ move ! (7 ∷ 6 ∷ 2 ∷ 0 ∷ []) $ group ! 4 $ use1 W (raw (Decide 𝓤 H A mem run .pre to-decide)) (goes-decide (subst (Is RollR roll) (roll-tells roll _ is₂) is₂) (subst (Is R slot) (tells slot _ is₅) is₅)) $
-        calls-at ! fm (Decide 𝓤 H A mem run) known-decide to-decide (and-then ! (load ! (from ! (stop !)) (look ! 7 refl)) (and-then ! (load ! (from ! (stop !)) (look ! 13 refl)) (and-then ! (load ! (from ! (stop !)) (look ! 11 refl)) (and-then ! (load ! (from ! (stop !)) (look ! 19 refl)) (and-then ! (load ! (from ! (stop !)) (look ! 17 refl)) (and-then ! (load ! (from ! (stop !)) (look ! 15 refl)) (no-more !))))))) (λ w₆.
+        calls-at ! fm (Decide 𝓤 H A mem run) known-decide to-decide (and-then ! (load ! (from ! (stop !)) (look ! 8 refl)) (and-then ! (load ! (from ! (stop !)) (look ! 18 refl)) (and-then ! (load ! (from ! (stop !)) (look ! 16 refl)) (and-then ! (load ! (from ! (stop !)) (look ! 27 refl)) (and-then ! (load ! (from ! (stop !)) (look ! 25 refl)) (and-then ! (load ! (from ! (stop !)) (look ! 23 refl)) (no-more !))))))) (λ w₆.
         use1 W (later (some (λ (r : Plan). ((‵ (flft κ₁ q₁) ⊛ ‵ (flft κ₂ q₂) ⊛ ‵ ftrue) ⊛ ‵ (PlanR .own r (w₆ ∷ []))) ⊛ raw (ensured 𝓤 H A decide.ended (decide.clauses 𝓤 H A mem run) (to-decide .0 .0) (to-decide .0 .3) tt r)))) (id⊢ 𝓤 _) $ await ! tt $ pick ! (λ r₆.
         split ! $ move ! (1 ∷ []) $ use1 W (raw (fact 𝓤 (r₆ ≡ p))) (decide-said 𝓤 H A mem run κ₁ κ₂ (length (d .now)) roll slot l m s r₆) $ heard ! (r₆ ≡ p) (λ e₆. split ! $ move ! (1 ∷ []) $ rewrite ! 0 (λ (r : Plan). ‵ (PlanR .own r (w₆ ∷ []))) e₆ refl $ facts ! PlanR (Is PlanR) (shows 𝓤 H A PlanR) (p) (w₆ ∷ []) (λ is₆.
-        land ! (from ! (stop !)) (init ! 23 refl (plan-typed 𝓤 H A W p _ is₆)) $ rewrite ! 23 (λ (u : Val). ‵ (fat fullShare TPlan′.mir l₀ 0 u)) (ap only (plan-tells p _ is₆)) refl $ split ! $ move ! (1 ∷ []) $ split ! $ move ! (1 ∷ []) $ drop ! $
-        move ! (4 ∷ 1 ∷ 0 ∷ 5 ∷ 3 ∷ 2 ∷ []) $ returns ! (look ! 24 refl) $ forget ! 6 refl $ forget ! 8 refl $ forget ! 10 refl $ forget ! 12 refl $ forget ! 14 refl $ forget ! 16 refl $ forget ! 18 refl $ forget ! 20 refl $ forget ! 22 refl $ forget ! 24 refl $
-        move ! (24 ∷ 25 ∷ []) $ free1 ! $ move ! (22 ∷ 23 ∷ []) $ free1 ! $ move ! (20 ∷ 21 ∷ []) $ free1 ! $ move ! (18 ∷ 19 ∷ []) $ free1 ! $ move ! (16 ∷ 17 ∷ []) $ free1 ! $ move ! (14 ∷ 15 ∷ []) $ free1 ! $ move ! (12 ∷ 13 ∷ []) $ free1 ! $ move ! (10 ∷ 11 ∷ []) $ free1 ! $ move ! (8 ∷ 9 ∷ []) $ free1 ! $ move ! (6 ∷ 7 ∷ []) $ free1 ! $ free0 ! $ by ! (exits (subst (Is PlanR p) (plan-tells p _ is₆) is₆))))))))))))))))))))))))))))))))))))
+        land ! (from ! (stop !)) (init ! 31 refl (plan-typed 𝓤 H A W p _ is₆)) $ rewrite ! 31 (λ (u : Val). ‵ (fat fullShare TPlan′.mir l₀ 0 u)) (ap only (plan-tells p _ is₆)) refl $ split ! $ move ! (1 ∷ []) $ split ! $ move ! (1 ∷ []) $ drop ! $
+        move ! (4 ∷ 1 ∷ 0 ∷ 5 ∷ 3 ∷ 2 ∷ []) $ returns ! (look ! 32 refl) $ forget ! 6 refl $ forget ! 7 refl $ forget ! 9 refl $ forget ! 11 refl $ forget ! 13 refl $ forget ! 15 refl $ forget ! 17 refl $ forget ! 19 refl $ forget ! 21 refl $ forget ! 24 refl $ forget ! 26 refl $ forget ! 28 refl $ forget ! 30 refl $ forget ! 32 refl $
+        move ! (32 ∷ 33 ∷ []) $ free1 ! $ move ! (30 ∷ 31 ∷ []) $ free1 ! $ move ! (28 ∷ 29 ∷ []) $ free1 ! $ move ! (26 ∷ 27 ∷ []) $ free1 ! $ move ! (24 ∷ 25 ∷ []) $ free1 ! $ move ! (6 ∷ 23 ∷ []) $ free1 ! $ move ! (20 ∷ 21 ∷ []) $ free1 ! $ move ! (18 ∷ 19 ∷ []) $ free1 ! $ move ! (16 ∷ 17 ∷ []) $ free1 ! $ move ! (14 ∷ 15 ∷ []) $ free1 ! $ move ! (12 ∷ 13 ∷ []) $ free1 ! $ move ! (10 ∷ 11 ∷ []) $ free1 ! $ move ! (8 ∷ 9 ∷ []) $ free1 ! $ move ! (6 ∷ 7 ∷ []) $ free1 ! $ free0 ! $ by ! (exits (subst (Is PlanR p) (plan-tells p _ is₆) is₆)))))))))))))))))))))))))))))))))))))))))))))
 
 module _ {M : Type 1} (𝓤 : URA M) (H : Heap 𝓤) (A : Atoms 𝓤) (W : Given 𝓤 H A) (mem : Memory → SProp 𝓤) (run : Routine → Fun 𝓤) where
   planned-walks : (C : Calls 𝓤 H) (Λ : Loops 𝓤 H) → FmC 𝓤 H (W .laws) C
-      → Triple 𝓤 (C #roll·Roll·begin) (Begin 𝓤 H A mem run)
-      → Triple 𝓤 (C #desk·roll-of) (RollOf 𝓤 H A mem run)
+      → Triple 𝓤 (C #desk·enter-all) (EnterAll 𝓤 H A mem run)
+      → Triple 𝓤 (C #roll·Roll·by) (By 𝓤 H A mem run)
       → Triple 𝓤 (C #roll·Roll·named) (Named 𝓤 H A mem run)
       → Triple 𝓤 (C #slot·Slot·free) (Free 𝓤 H A mem run)
       → Triple 𝓤 (C #desk·slot-at) (SlotAt 𝓤 H A mem run)
       → Triple 𝓤 (C #plan·decide) (Decide 𝓤 H A mem run)
       → Walks 𝓤 H A planned.ended stayed (WpFn 𝓤 H C Λ code.function) (planned.clauses 𝓤 H A mem run)
-  planned-walks C Λ fm known-begin known-roll-of known-named-roll known-free known-slot-at known-decide =
+  planned-walks C Λ fm known-enter-all known-by-roll known-named-roll known-free known-slot-at known-decide =
       walked 𝓤 H A planned.ended stayed (planned.clauses 𝓤 H A mem run) (WpFn 𝓤 H C Λ code.function)
       (λ κs. (slice-vals, (ledger-vals, (slice-vals, (slice-vals, tt)))))
       (λ κs. (shr-slice-tells (named 0) (κs .0) R, (ledger-tells, (shr-slice-tells (named 1) (κs .1 .0) u8, (shr-slice-tells (named 2) (κs .1 .1 .0) u8, tt)))))
-      (λ κs qs bounds a g are. via 𝓤 _ (fst∗ 𝓤 _ (emp 𝓤)) (walk 𝓤 H A W mem run (κs .0) (κs .1 .0) (κs .1 .1 .0) (qs .0) (qs .1 .0) (qs .1 .1 .0) (a .0) (a .1 .0) (a .1 .1 .0) (a .1 .1 .1 .0) (are .0 .0 .1) (are .1 .0) (are .1 .1 .0 .0 .1) (are .1 .1 .1 .0 .0 .1) C Λ fm known-begin known-roll-of known-named-roll known-free known-slot-at known-decide))
+      (λ κs qs bounds a g are. via 𝓤 _ (fst∗ 𝓤 _ (emp 𝓤)) (walk 𝓤 H A W mem run (κs .0) (κs .1 .0) (κs .1 .1 .0) (qs .0) (qs .1 .0) (qs .1 .1 .0) (a .0) (a .1 .0) (a .1 .1 .0) (a .1 .1 .1 .0) (are .0 .0 .1) (are .1 .0) (are .1 .1 .0 .0 .1) (are .1 .1 .1 .0 .0 .1) C Λ fm known-enter-all known-by-roll known-named-roll known-free known-slot-at known-decide))
 
 planned-meets : {M : Type 1} (𝓤 : URA M) (H : Heap 𝓤) (A : Atoms 𝓤) (W : Given 𝓤 H A) (mem : Memory → SProp 𝓤) (run : Routine → Fun 𝓤) (𝓣 : Tables 𝓤 H)
-    → Triple 𝓤 (𝓣 .C #roll·Roll·begin) (Begin 𝓤 H A mem run)
-    → Triple 𝓤 (𝓣 .C #desk·roll-of) (RollOf 𝓤 H A mem run)
+    → Triple 𝓤 (𝓣 .C #desk·enter-all) (EnterAll 𝓤 H A mem run)
+    → Triple 𝓤 (𝓣 .C #roll·Roll·by) (By 𝓤 H A mem run)
     → Triple 𝓤 (𝓣 .C #roll·Roll·named) (Named 𝓤 H A mem run)
     → Triple 𝓤 (𝓣 .C #slot·Slot·free) (Free 𝓤 H A mem run)
     → Triple 𝓤 (𝓣 .C #desk·slot-at) (SlotAt 𝓤 H A mem run)
     → Triple 𝓤 (𝓣 .C #plan·decide) (Decide 𝓤 H A mem run)
     → Meets 𝓤 H A planned.signature (WpFn 𝓤 H (𝓣 .C) (𝓣 .Λ) code.function) (planned.spec 𝓤 H A mem run)
-planned-meets 𝓤 H A W mem run 𝓣 known-begin known-roll-of known-named-roll known-free known-slot-at known-decide =
+planned-meets 𝓤 H A W mem run 𝓣 known-enter-all known-by-roll known-named-roll known-free known-slot-at known-decide =
     walk-meets 𝓤 H A planned.ended stayed W
     (goes-none-slice 𝓤 H A W 3 (0 ∷ []) tt (plain (λ _. R)) yes, (goes-none 𝓤 H A W 3 (λ _. LedgerR) yes (λ κs x f. refl), (goes-none-slice 𝓤 H A W 3 (1 ∷ []) tt (plain (λ _. u8)) yes, (goes-none-slice 𝓤 H A W 3 (2 ∷ []) tt (plain (λ _. u8)) yes, tt))))
     (planned.clauses 𝓤 H A mem run)
-    (WpFn 𝓤 H (𝓣 .C) (𝓣 .Λ) code.function) (WpFn-mono 𝓤 H (W .laws) 𝓣 code.function) (planned-walks 𝓤 H A W mem run (𝓣 .C) (𝓣 .Λ) (fmOf 𝓤 H (W .laws) 𝓣) known-begin known-roll-of known-named-roll known-free known-slot-at known-decide)
+    (WpFn 𝓤 H (𝓣 .C) (𝓣 .Λ) code.function) (WpFn-mono 𝓤 H (W .laws) 𝓣 code.function) (planned-walks 𝓤 H A W mem run (𝓣 .C) (𝓣 .Λ) (fmOf 𝓤 H (W .laws) 𝓣) known-enter-all known-by-roll known-named-roll known-free known-slot-at known-decide)
 
 pub planned-spec : {M : Type 1} → stated.statement M
 unfolding code.routine tablesOf
@@ -301,8 +348,8 @@ planned-spec 𝓤 H 𝓜 𝓖 𝓡 =
     entered 𝓤 H (tripleOf 𝓤 H (𝓖 .A) planned.signature (planned.spec 𝓤 H (𝓖 .A) (𝓜 .mem) (𝓡 .run)))
     (tables 𝓤 H 𝓜 𝓡 code.env .C) (tables 𝓤 H 𝓜 𝓡 code.env .Λ) #desk·planned code.function (code.unfolded 𝓤 H 𝓜 𝓡)
     (planned-meets 𝓤 H (𝓖 .A) (givenOf 𝓤 H 𝓜 𝓖) (𝓜 .mem) (𝓡 .run) (tablesOf 𝓤 H 𝓜 (tables 𝓤 H 𝓜 𝓡 code.env))
-    (cited 𝓤 H (Begin 𝓤 H (𝓖 .A) (𝓜 .mem) (𝓡 .run)) 𝓜 𝓡 code.env #roll·Roll·begin begin-def.routine code.calls-roll·Roll·begin (begin-thm.met 𝓤 H 𝓜 𝓖 𝓡))
-    (cited 𝓤 H (RollOf 𝓤 H (𝓖 .A) (𝓜 .mem) (𝓡 .run)) 𝓜 𝓡 code.env #desk·roll-of roll-of-def.routine code.calls-desk·roll-of (roll-of-thm.met 𝓤 H 𝓜 𝓖 𝓡))
+    (cited 𝓤 H (EnterAll 𝓤 H (𝓖 .A) (𝓜 .mem) (𝓡 .run)) 𝓜 𝓡 code.env #desk·enter-all enter-all-def.routine code.calls-desk·enter-all (enter-all-thm.met 𝓤 H 𝓜 𝓖 𝓡))
+    (cited 𝓤 H (By 𝓤 H (𝓖 .A) (𝓜 .mem) (𝓡 .run)) 𝓜 𝓡 code.env #roll·Roll·by by-roll-def.routine code.calls-roll·Roll·by (by-roll-thm.met 𝓤 H 𝓜 𝓖 𝓡))
     (cited 𝓤 H (Named 𝓤 H (𝓖 .A) (𝓜 .mem) (𝓡 .run)) 𝓜 𝓡 code.env #roll·Roll·named named-roll-def.routine code.calls-roll·Roll·named (named-roll-thm.met 𝓤 H 𝓜 𝓖 𝓡))
     (cited 𝓤 H (Free 𝓤 H (𝓖 .A) (𝓜 .mem) (𝓡 .run)) 𝓜 𝓡 code.env #slot·Slot·free free-def.routine code.calls-slot·Slot·free (free-thm.met 𝓤 H 𝓜 𝓖 𝓡))
     (cited 𝓤 H (SlotAt 𝓤 H (𝓖 .A) (𝓜 .mem) (𝓡 .run)) 𝓜 𝓡 code.env #desk·slot-at slot-at-def.routine code.calls-desk·slot-at (slot-at-thm.met 𝓤 H 𝓜 𝓖 𝓡))

@@ -52,7 +52,8 @@ use Rattle.desk.proofs.SlotLaws.{R, vals, tells, ty-at, slot-makes}
 use Rattle.desk.proofs.Rows.{LedgerR, TakenR, ledger-mach, ledger-vals, ledger-tells, ledger-makes, ledger-typed, taken-vals, taken-tells, taken-makes, taken-typed}
 use Rattle.lend.specs.declared.Lent.{Lent}
 use Rattle.lend.proofs.Rows.{LentR, lent-mach, lent-vals, lent-tells, lent-makes, lent-typed}
-use Rattle.lend.proofs.ArrayLend.{Kept, cell-in, cell-out, lends-first, first-back}
+use Rattle.desk.proofs.ArrayLend.{cell-in, cell-out}
+use Rattle.lend.proofs.ArrayLend.{Kept, lends-first, first-back}
 use Rattle.lend.proofs.LendLaws.{min-within, length-first, served-first, map-first}
 use Rattle.lend.proofs.at_most_held as at-most
 use Rattle.lend.proofs.at_most_held.Symbol as at-most-def
@@ -217,8 +218,8 @@ module _ {M : Type 1} (𝓤 : URA M) (H : Heap 𝓤) (A : Atoms 𝓤) (W : Given
         assigns ! (addr ! (from ! (stop !))) (from ! (stop !)) (init ! 8 refl (tt, tt)) $
         assigns ! (agg ! (and-then ! (load ! (from ! (stop !)) (look ! 8 refl)) (and-then ! (load ! (from ! (stop !)) (look ! 16 refl)) (no-more !)))) (from ! (stop !)) (init ! 6 refl (tt, (tt, (record { fits = is₁ .1 }, tt)))) $
         rewrite ! 6 (λ (j : ℕ). ‵ (fat fullShare (ty-at 12 body.locals) l₁₂ 0 (sliceVal (l₆, 0) j))) (sym few) refl $
-        move ! (18 ∷ []) $ use1 W (‵ (cellAt fullShare (R33 .mir) (avals xs) l₆ 0)) (W .laws .at-raw fullShare (ty-at 6 body.locals) l₆ 0 (amach xs)) $ use1 W (‵ (partAt R33 fullShare xs l₆ 0)) (cell-in R tt vals tells 33 𝓤 H A W l₆ 0 (slot-makes 𝓤 H A W) xs ga) $
-        lft-new ! tt (λ ν. move ! (1 ∷ []) $ use1 W (later (some (λ (γ : GName). ‵ (MutSlice (named 1) (ν ∷ []) R .own (d l₆ γ) (v l₆ ∷ [])) ⊛ ‵ (Kept R tt vals tells 33 𝓤 H A W l₆ 0 (ν ∷ []) xs k γ)))) (lends-first R tt vals tells 33 𝓤 H A W l₆ 0 (named 1) (ν ∷ []) xs k room) $ await ! tt $ pick ! (λ γ. split ! $
+        move ! (18 ∷ []) $ use1 W (‵ (cellAt fullShare (R33 .mir) (avals xs) l₆ 0)) (W .laws .at-raw fullShare (ty-at 6 body.locals) l₆ 0 (amach xs)) $ use1 W (‵ (partAt R33 fullShare xs l₆ 0)) (cell-in R 33 𝓤 H A W l₆ 0 vals (slot-makes 𝓤 H A W) xs ga) $
+        lft-new ! tt (λ ν. move ! (1 ∷ []) $ use1 W (later (some (λ (γ : GName). ‵ (MutSlice (named 1) (ν ∷ []) R .own (d l₆ γ) (v l₆ ∷ [])) ⊛ ‵ (Kept R tt 33 𝓤 H A W l₆ 0 (ν ∷ []) xs k γ)))) (lends-first R tt 33 𝓤 H A W l₆ 0 (named 1) (ν ∷ []) xs k room) $ await ! tt $ pick ! (λ γ. split ! $
         move ! (6 ∷ []) $ use1 W (‵ Own₁ ⊛ ‵ Own₁) (shr-slice-copy 𝓤 H A W (named 1) κ₁ u8 .twice s (v₁ ∷ [])) $ split ! $ move ! (5 ∷ 4 ∷ 6 ∷ 7 ∷ 2 ∷ 0 ∷ []) $ group ! 6 $ use1 W (raw (Serve 𝓤 H A mem run .pre (to-serve ν l₆ γ))) (goes-serve ν l₆ γ) $
         calls-at ! fm (Serve 𝓤 H A mem run) known-serve (to-serve ν l₆ γ) (and-then ! (load ! (from ! (stop !)) (look ! 22 refl)) (and-then ! (load ! (from ! (stop !)) (look ! 9 refl)) (and-then ! (load ! (from ! (stop !)) (look ! 5 refl)) (and-then ! (load ! (from ! (stop !)) (look ! 18 refl)) (no-more !))))) (λ w₂.
         use1 W (later (some (λ (r : Taken). ((‵ (flft κ₀ q₀) ⊛ ‵ (flft (ν ∷ []) fullShare) ⊛ ‵ (flft κ₁ q₁) ⊛ ‵ ftrue) ⊛ ‵ (TakenR .own r (w₂ ∷ []))) ⊛ raw (ensured 𝓤 H A serve.ended (serve.clauses 𝓤 H A mem run) ((to-serve ν l₆ γ) .0 .0) ((to-serve ν l₆ γ) .0 .3) tt r)))) (id⊢ 𝓤 _) $ await ! tt $ pick ! (λ r₂.
@@ -229,8 +230,8 @@ module _ {M : Type 1} (𝓤 : URA M) (H : Heap 𝓤) (A : Atoms 𝓤) (W : Given
         land ! (from ! (stop !)) (init ! 15 refl (taken-typed 𝓤 H A W t _ is₂)) $ rewrite ! 15 (λ (u : Val). ‵ (fat fullShare (ty-at 8 body.locals) l₈ 0 u)) (ap only (taken-tells t _ is₂)) refl $
         split ! $ move ! (1 ∷ []) $ split ! $ move ! (1 ∷ []) $ split ! $ move ! (1 ∷ []) $ drop ! $
         -- the local has the slots again
-        move ! (1 ∷ []) $ lft-end ! tt $ move ! (0 ∷ 6 ∷ 3 ∷ []) $ use3 W (later (‵ (partAt R33 fullShare (zs .1 .1 .0 ++ drop-list k xs) l₆ 0))) (first-back R tt vals tells 33 𝓤 H A W l₆ 0 (ν ∷ []) γ xs k (zs .1 .1 .0) full) $ await ! tt $
-        use1 W (given (Is R33 (zs .1 .1 .0 ++ drop-list k xs) (avals (zs .1 .1 .0 ++ drop-list k xs))) (‵ (cellAt fullShare (R33 .mir) (avals (zs .1 .1 .0 ++ drop-list k xs)) l₆ 0))) (cell-out R tt vals tells 33 𝓤 H A W l₆ 0 (zs .1 .1 .0 ++ drop-list k xs)) $ learn ! (λ gz.
+        move ! (1 ∷ []) $ lft-end ! tt $ move ! (0 ∷ 6 ∷ 3 ∷ []) $ use3 W (later (‵ (partAt R33 fullShare (zs .1 .1 .0 ++ drop-list k xs) l₆ 0))) (first-back R tt 33 𝓤 H A W l₆ 0 (ν ∷ []) γ xs k (zs .1 .1 .0) full) $ await ! tt $
+        use1 W (given (Is R33 (zs .1 .1 .0 ++ drop-list k xs) (avals (zs .1 .1 .0 ++ drop-list k xs))) (‵ (cellAt fullShare (R33 .mir) (avals (zs .1 .1 .0 ++ drop-list k xs)) l₆ 0))) (cell-out R 33 𝓤 H A W l₆ 0 vals tells (zs .1 .1 .0 ++ drop-list k xs)) $ learn ! (λ gz.
         use1 W (‵ (fat fullShare (ty-at 6 body.locals) l₆ 0 (amach (zs .1 .1 .0 ++ drop-list k xs)))) (W .laws .raw-at fullShare (ty-at 6 body.locals) l₆ 0 (amach (zs .1 .1 .0 ++ drop-list k xs))) $
         assigns ! (of-opd ! (load ! (from ! (stop !)) (look ! 0 refl))) (from ! (stop !)) (init ! 5 refl (typed (zs .1 .1 .0 ++ drop-list k xs) gz .0)) $
         -- `lent_of`

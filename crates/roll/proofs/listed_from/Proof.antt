@@ -1,22 +1,26 @@
--- At each turn the number is listed from the start on if it was hit so far or is listed in what is left of the table. Assumes nothing.
-use Prim.Native.Nat.{_-_}
+-- At each turn the number is listed from the start on if it was hit so far or is listed in what is left to be counted. Assumes nothing.
+use Prim.Native.Nat.{_≤_, _-_}
 use mathlib.Core.Path.{_≡_, _∙_, sym}
 use mathlib.Core.Bool.{_||_}
 use lib.ListN.{length, drop}
 use Rattle.base.specs.Lists.{listed}
-use Rattle.base.proofs.ListLaws.{listed-more, listed-ends}
+use Rattle.roll.proofs.TableLaws.{standing, lookup-begins, lookup-more, lookup-ends}
 use borrow.Author.Needs.{needs}
 use Rattle.roll.proofs.listed_from.Statement.{statement}
 use Rattle.roll.proofs.listed_from.Tie as tie
 
 abbrev Inv-loop : tie.InvT-loop
-Inv-loop start number table hit₀ i₀ hit i = (listed number (drop start table) ≡ (hit || listed number (drop i table))) × (length table ≡ 32)
+Inv-loop start number table hit₀ i₀ hit i =
+    (i ≤ 32) × (listed number (drop start table) ≡ (hit || listed number (drop (standing start i) table))) × (length table ≡ 32)
 
 abbrev μ-loop : tie.MeasureT-loop
 μ-loop start number table hit₀ i₀ hit i = 32 - i
 
 loop-holds : tie.Need-loop-holds Inv-loop μ-loop
-loop-holds c = search needs
+loop-holds c = (search needs, lookup-begins (c .args .number) (c .args .start) (c .args .t1), search needs)
+
+cast-hit : tie.Need-cast-hit Inv-loop μ-loop
+cast-hit c = search needs
 
 mul-hit : tie.Need-mul-hit Inv-loop μ-loop
 mul-hit c = search needs
@@ -34,15 +38,15 @@ loop-again : tie.Need-loop-again Inv-loop μ-loop
 loop-again c =
     let a = c .before .before .args in
     let l = c .before .loop in
-    (l .inv .0 ∙ listed-more (a .number) (l .i) (l .hit) (a .t1) (search needs), search needs)
+    (search needs, l .inv .1 ∙ lookup-more (a .number) (a .start) (a .t1) (l .i) (l .hit) (search needs), search needs)
 
 returns : tie.Need-returns Inv-loop μ-loop
 returns c =
     let a = c .before .before .args in
     let l = c .before .loop in
-    sym (l .inv .0 ∙ listed-ends (a .number) (l .i) (l .hit) (a .t1) (search needs))
+    sym (l .inv .1 ∙ lookup-ends (a .number) (a .start) (a .t1) (l .i) (l .hit) (search needs))
 
 pub listed-from-spec : {M : Type 1} → statement M
 listed-from-spec =
     tie.close
-    (tie.spec Inv-loop μ-loop loop-holds mul-hit array-read-hit add-i loop-less loop-again returns)
+    (tie.spec Inv-loop μ-loop loop-holds cast-hit mul-hit array-read-hit add-i loop-less loop-again returns)

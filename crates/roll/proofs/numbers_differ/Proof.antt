@@ -19,6 +19,9 @@ abbrev μ-loop : tie.MeasureT-loop
 loop-holds : tie.Need-loop-holds Inv-loop μ-loop
 loop-holds c = search needs
 
+cast-number : tie.Need-cast-number Inv-loop μ-loop
+cast-number c = search needs
+
 mul-number : tie.Need-mul-number Inv-loop μ-loop
 mul-number c = search needs
 
@@ -56,4 +59,4 @@ returns c =
 pub numbers-differ-spec : {M : Type 1} → statement M
 numbers-differ-spec =
     tie.close
-    (tie.spec Inv-loop μ-loop loop-holds mul-number array-read-number add-listed-from listed-from-requires add-i loop-less loop-again returns)
+    (tie.spec Inv-loop μ-loop loop-holds cast-number mul-number array-read-number add-listed-from listed-from-requires add-i loop-less loop-again returns)

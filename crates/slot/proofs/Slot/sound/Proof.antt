@@ -1,6 +1,7 @@
--- One of two tests. Assumes nothing.
+-- One of two tests, the second only where the first fails. Assumes nothing.
+use mathlib.Core.Path.{_≡_, sym, _∙_, ap}
 use mathlib.Core.Bool.{_||_}
-use Rattle.slot.specs.Sound.{slotSound}
+use Rattle.slot.specs.Sound.{openSound, slotSound}
 use borrow.Author.Needs.{needs}
 use Rattle.slot.proofs.Slot.sound.Statement.{statement}
 use Rattle.slot.proofs.Slot.sound.Tie as tie
@@ -8,12 +9,20 @@ use Rattle.slot.proofs.Slot.sound.Tie as tie
 is-free-requires : tie.Need-is-free-requires
 is-free-requires c κs = search needs
 
+returns : tie.Need-returns
+unfolding slotSound
+returns c =
+    let s = c .before .before .args .self in
+    sym (ap (λ t. t || openSound s) (sym (c .before .is-free .ensures) ∙ c .if1 .taken))
+
 open-sound-requires : tie.Need-open-sound-requires
 open-sound-requires c κs = search needs
 
-returns : tie.Need-returns
+returns-2 : tie.Need-returns-2
 unfolding slotSound
-returns c = λ i. c .before .is-free .ensures i || c .open-sound .ensures i
+returns-2 c =
+    let s = c .before .before .before .args .self in
+    c .open-sound .ensures ∙ sym (ap (λ t. t || openSound s) (sym (c .before .before .is-free .ensures) ∙ c .before .if1 .left))
 
 pub sound-spec : {M : Type 1} → statement M
-sound-spec = tie.close (tie.spec is-free-requires open-sound-requires returns)
+sound-spec = tie.close (tie.spec is-free-requires returns open-sound-requires returns-2)
