@@ -29,11 +29,13 @@ use Rattle.index.specs.Index.{formulaOf, indexOf, exactly, shownAnswer, shownIn
 use Rattle.index.proofs.IndexLaws.{Way, unsound, sheetless, divides-by-nobody, answered as is-answered, index-exactly}
 use Rattle.slot.specs.declared.Slot.{Slot}
 use Rattle.plan.specs.Serve.{messageAnswer, mapServed, deskServed, servedOf}
-use Rattle.bridge.specs.Words.{ledgerWords, wordsFit, ledgerIn, flagOf, wordsOf}
-use Rattle.bridge.specs.Named.{indexNamed, levelNamed, setNamed, allNamed}
-use Rattle.bridge.specs.Calls.{headerWord, headed, answered, ifAccepted, isPair, emptyAnswer, emptyWords, takeAnswer, takeWords, takeMap, bookAnswer, bookWords, bookMap, bookOut, serveAnswer, serveWords, serveMap, serveDesk, indexAnswer, indexOut, decimalAnswer, decimalOut}
-use Rattle.bridge.specs.Inside.{noLedger, lentLedger, written, settled}
-use Rattle.bridge.proofs.LentLaws.{lent-answer, lent-output, lent-words, lent-kept, none-taken, none-read, none-served, none-indexed, map-kept, book-map-kept, served-map-kept, served-desk-kept}
+use Rattle.words.specs.Words.{ledgerWords, wordsFit, ledgerIn, flagOf, wordsOf}
+use Rattle.words.specs.Header.{headerWord, headed, answered, ifAccepted}
+use Rattle.words.specs.Inside.{noLedger, lentLedger, written, settled}
+use Rattle.words.proofs.LentLaws.{lent-answer, lent-output, lent-words, lent-kept}
+use Rattle.naming.specs.Named.{indexNamed, levelNamed, setNamed, allNamed}
+use Rattle.bridge.specs.Calls.{isPair, emptyAnswer, emptyWords, takeAnswer, takeWords, takeMap, bookAnswer, bookWords, bookMap, bookOut, serveAnswer, serveWords, serveMap, serveDesk, indexAnswer, indexOut, decimalAnswer, decimalOut}
+use Rattle.bridge.proofs.NoneLaws.{none-taken, none-read, none-served, none-indexed, map-kept, book-map-kept, served-map-kept, served-desk-kept}
 
 -- ---- outputs
 

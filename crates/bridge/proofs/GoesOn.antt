@@ -36,10 +36,10 @@ use Rattle.plan.specs.Rules.{lookAt}
 use Rattle.plan.specs.Plan.{ledgerClosed}
 use Rattle.plan.specs.Serve.{messageAnswer, ledgerServed}
 use Rattle.plan.proofs.MessageLaws.{opened, stepped, closed, refused-same, accepted-kind}
-use Rattle.bridge.specs.Words.{wordsFit, ledgerIn, wordsOf, Fitting}
+use Rattle.words.specs.Words.{wordsFit, ledgerIn, wordsOf, Fitting}
+use Rattle.words.proofs.WordsBack.{words-back, held-fits}
+use Rattle.words.proofs.LentLaws.{accepted-is}
 use Rattle.bridge.specs.Calls.{isPair, emptyAnswer, emptyWords, takeAnswer, takeWords, bookAnswer, bookWords, serveAnswer, serveWords}
-use Rattle.bridge.proofs.WordsBack.{words-back, held-fits}
-use Rattle.bridge.proofs.LentLaws.{accepted-is}
 use Rattle.bridge.proofs.CallLaws.{behind-accepts}
 
 -- ---- a sheet's numbers

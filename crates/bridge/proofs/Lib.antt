@@ -1,6 +1,4 @@
-pub mod WordLaws
-pub mod WordsBack
-pub mod LentLaws
+pub mod NoneLaws
 pub mod CallLaws
 pub mod RefusedSame
 pub mod GoesOn

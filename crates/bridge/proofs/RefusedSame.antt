@@ -9,10 +9,11 @@ use borrow.Author.Tests.{ne-eqb}
 use Rattle.decimal.specs.Decimal.{decimally}
 use Rattle.index.specs.Index.{exactly}
 use Rattle.slot.specs.declared.Slot.{Slot}
-use Rattle.bridge.specs.Words.{wordsFit}
-use Rattle.bridge.specs.Named.{allNamed}
-use Rattle.bridge.specs.Calls.{headerWord, answered, isPair, indexAsked, decimalAsked, emptyAnswer, emptyWords, takeAnswer, takeWords, takeMap, bookAnswer, bookWords, bookMap, bookOut, serveAnswer, serveWords, serveMap, serveDesk, indexAnswer, indexOut, decimalAnswer, decimalOut}
-use Rattle.bridge.proofs.LentLaws.{refused-is}
+use Rattle.words.specs.Words.{wordsFit}
+use Rattle.words.specs.Header.{headerWord, answered}
+use Rattle.words.proofs.LentLaws.{refused-is}
+use Rattle.naming.specs.Named.{allNamed}
+use Rattle.bridge.specs.Calls.{isPair, indexAsked, decimalAsked, emptyAnswer, emptyWords, takeAnswer, takeWords, takeMap, bookAnswer, bookWords, bookMap, bookOut, serveAnswer, serveWords, serveMap, serveDesk, indexAnswer, indexOut, decimalAnswer, decimalOut}
 
 pub empty-refused-same : (header : ℕ) (ws : List ℕ) → (emptyAnswer header ws ≡ 0 → ⊥) → emptyWords header ws ≡ ws
 unfolding emptyWords

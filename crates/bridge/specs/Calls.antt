@@ -1,5 +1,5 @@
 -- What each call of include/temelyak.h answers, and what it leaves in all that was lent, by the call behind it.
-use Prim.Native.Nat.{ℕ, _+_, _*_, _^_}
+use Prim.Native.Nat.{ℕ}
 use mathlib.Core.List.{List, [], _∷_}
 use mathlib.Core.Bool.{Bool, _&&_, cond}
 use lib.ListN.{length, getD, drop}
@@ -16,31 +16,9 @@ use Rattle.index.specs.Index.{indexOf, exactly, shownIndex}
 use Rattle.slot.specs.declared.Slot.{Slot}
 use Rattle.roll.specs.Desk.{slotCount}
 use Rattle.plan.specs.Serve.{messageAnswer, ledgerServed, mapServed, deskServed}
-use Rattle.bridge.specs.Words.{ledgerWords, wordsFit, ledgerIn, flagOf, wordsOf}
-use Rattle.bridge.specs.Named.{indexNamed, levelNamed, setNamed, allNamed}
-
--- TEMELYAK_VERSION and TEMELYAK_SLOT_BYTES
-abbrev pub version : ℕ
-version = 1
-
-abbrev pub slotBytes : ℕ
-slotBytes = 72
-
--- TEMELYAK_HEADER
-abbrev pub headerWord : ℕ
-headerWord = version * 2 ^ 32 + ledgerWords * 2 ^ 16 + slotBytes
-
--- 254: "the caller was built with another header"; else the answer
-abbrev pub headed : ℕ → ℕ → ℕ
-headed header answer = cond (eqb header headerWord) answer 254
-
--- 1 where words hold no ledger or an output has another length, that is, where what was lent does not fit; else the answer of the call behind
-abbrev pub answered : ℕ → Bool → ℕ → ℕ
-answered header fits answer = headed header (cond fits answer 1)
-
--- "On a refusal no lent memory is changed"
-abbrev pub ifAccepted : {X : Type 0} → ℕ → X → X → X
-ifAccepted answer next same = cond (eqb answer 0) next same
+use Rattle.words.specs.Words.{ledgerWords, wordsFit, ledgerIn, flagOf, wordsOf}
+use Rattle.words.specs.Header.{version, slotBytes, answered, ifAccepted}
+use Rattle.naming.specs.Named.{indexNamed, levelNamed, setNamed, allNamed}
 
 -- an output of two words
 abbrev pub isPair : List ℕ → Bool

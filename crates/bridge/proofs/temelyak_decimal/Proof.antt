@@ -7,9 +7,9 @@ use borrow.Author.Tests.{eq-eqb, ne-eqb, not-true, not-false}
 use Rattle.decimal.specs.declared.Shown.{Shown}
 use Rattle.decimal.specs.Decimal.{decimally}
 use Rattle.index.specs.Index.{shownIndex}
-use Rattle.bridge.specs.Named.{indexNamed, levelNamed, setNamed}
-use Rattle.bridge.specs.Calls.{headed, ifAccepted}
-use Rattle.bridge.specs.Inside.{lentLedger}
+use Rattle.words.specs.Header.{headed, ifAccepted}
+use Rattle.words.specs.Inside.{lentLedger}
+use Rattle.naming.specs.Named.{indexNamed, levelNamed, setNamed}
 use Rattle.bridge.proofs.CallLaws.{pairIn, shown-cut, decimal-unnamed, decimal-paired, decimal-unpaired}
 use borrow.Author.Needs.{needs}
 use Rattle.bridge.proofs.temelyak_decimal.Statement.{statement}

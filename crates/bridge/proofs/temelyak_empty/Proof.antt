@@ -3,7 +3,7 @@ use mathlib.Core.Path.{ap, _∙_}
 use lib.ListN.{length}
 use borrow.Author.Tests.{eq-eqb, ne-eqb}
 use Rattle.ledger.specs.declared.Ledger.{Ledger}
-use Rattle.bridge.specs.Inside.{settled}
+use Rattle.words.specs.Inside.{settled}
 use Rattle.bridge.proofs.CallLaws.{empty-answer-is, empty-words-is, empty-unsized}
 use borrow.Author.Needs.{needs}
 use Rattle.bridge.proofs.temelyak_empty.Statement.{statement}

@@ -6,9 +6,9 @@ use lib.ListN.{length, getD}
 use borrow.Author.Tests.{eq-eqb, ne-eqb, not-true, not-false}
 use Rattle.index.specs.declared.Answer.{Answer}
 use Rattle.index.specs.Index.{indexOf, exactly}
-use Rattle.bridge.specs.Named.{indexNamed, levelNamed, setNamed}
-use Rattle.bridge.specs.Calls.{headed, ifAccepted}
-use Rattle.bridge.specs.Inside.{lentLedger}
+use Rattle.words.specs.Header.{headed, ifAccepted}
+use Rattle.words.specs.Inside.{lentLedger}
+use Rattle.naming.specs.Named.{indexNamed, levelNamed, setNamed}
 use Rattle.bridge.proofs.CallLaws.{pairIn, index-unnamed, index-paired, index-unpaired}
 use borrow.Author.Needs.{needs}
 use Rattle.bridge.proofs.temelyak_index.Statement.{statement}

@@ -47,21 +47,21 @@ use Rattle.plan.specs.Serve.{servedOf, mapServed, deskServed}
 use Rattle.desk.proofs.SlotLaws.{R}
 use Rattle.desk.proofs.Shared.{LentOut, lends-out, out-back}
 use Rattle.desk.proofs.Rows.{LedgerR, TakenR, ledger-vals, ledger-tells, ledger-makes, ledger-typed, taken-vals, taken-tells, taken-makes, taken-typed}
-use Rattle.bridge.specs.Calls.{headed}
-use Rattle.bridge.specs.Inside.{lentLedger, settled}
+use Rattle.words.specs.Header.{headed}
+use Rattle.words.specs.Inside.{lentLedger, settled}
 use Rattle.bridge.proofs.CallLaws.{serve-answer-is, serve-words-is, serve-map-is, serve-desk-is}
-use Rattle.bridge.proofs.lent_ledger as lent-ledger
-use Rattle.bridge.proofs.lent_ledger.Symbol as lent-ledger-def
-use Rattle.bridge.proofs.lent_ledger.Symbol.{name as #bridge·lent-ledger}
-use Rattle.bridge.proofs.lent_ledger.Met as lent-ledger-thm
+use Rattle.words.proofs.lent_ledger as lent-ledger
+use Rattle.words.proofs.lent_ledger.Symbol as lent-ledger-def
+use Rattle.words.proofs.lent_ledger.Symbol.{name as #words·lent-ledger}
+use Rattle.words.proofs.lent_ledger.Met as lent-ledger-thm
 use Rattle.desk.proofs.serve as serve
 use Rattle.desk.proofs.serve.Symbol as serve-def
 use Rattle.desk.proofs.serve.Symbol.{name as #desk·serve}
 use Rattle.desk.proofs.serve.Met as serve-thm
-use Rattle.bridge.proofs.settle as settle
-use Rattle.bridge.proofs.settle.Symbol as settle-def
-use Rattle.bridge.proofs.settle.Symbol.{name as #bridge·settle}
-use Rattle.bridge.proofs.settle.Met as settle-thm
+use Rattle.words.proofs.settle as settle
+use Rattle.words.proofs.settle.Symbol as settle-def
+use Rattle.words.proofs.settle.Symbol.{name as #words·settle}
+use Rattle.words.proofs.settle.Met as settle-thm
 use Rattle.bridge.proofs.temelyak_serve.Key.{name as #bridge·temelyak-serve}
 use Rattle.bridge.proofs.temelyak_serve as temelyak-serve
 use Rattle.bridge.proofs.temelyak_serve.Statement as stated
@@ -170,7 +170,7 @@ module _ {M : Type 1} (𝓤 : URA M) (H : Heap 𝓤) (A : Atoms 𝓤) (W : Given
   goes-settle g =
       qed W (‵ (flft κ₀ q₀) ∷ ‵ Own₀ ∷ []) ∵ nothing ! $ move ! (1 ∷ 0 ∷ []) $ join ! $ nothing ! $ owned ! TakenR (Is TakenR) (taken-makes 𝓤 H A W) t _ g $ fjoin ! $ move ! (2 ∷ 0 ∷ []) $ fjoin ! $ owned ! u64 (Is u64) (uint-makes 𝓤 H A W w64) h _ (refl, h-fits) $ fjoin ! $ move ! (1 ∷ 0 ∷ []) $ join ! $ frame ! $ done !
 
-  module _ (C : Calls 𝓤 H) (Λ : Loops 𝓤 H) (fm : FmC 𝓤 H (W .laws) C) (known-lent-ledger : Triple 𝓤 (C #bridge·lent-ledger) (LentLedger 𝓤 H A mem run)) (known-serve : Triple 𝓤 (C #desk·serve) (Serve 𝓤 H A mem run)) (known-settle : Triple 𝓤 (C #bridge·settle) (Settle 𝓤 H A mem run)) where
+  module _ (C : Calls 𝓤 H) (Λ : Loops 𝓤 H) (fm : FmC 𝓤 H (W .laws) C) (known-lent-ledger : Triple 𝓤 (C #words·lent-ledger) (LentLedger 𝓤 H A mem run)) (known-serve : Triple 𝓤 (C #desk·serve) (Serve 𝓤 H A mem run)) (known-settle : Triple 𝓤 (C #words·settle) (Settle 𝓤 H A mem run)) where
     walk : ent 𝓤 (onEntry 𝓤 H A temelyak-serve.signature (κ₀, (κ₁, (κ₂, (κ₃, tt)))) (q₀, (q₁, (q₂, (q₃, tt)))) a at) (WpFn 𝓤 H C Λ code.function (vint w64 h ∷ v₀ ∷ v₁ ∷ v₂ ∷ v₃ ∷ []) Post)
     walk =
         qed W ((‵ (flft κ₀ q₀) ⊛ ‵ (flft κ₁ q₁) ⊛ ‵ (flft κ₂ q₂) ⊛ ‵ (flft κ₃ q₃) ⊛ ‵ ftrue) ∷ ‵ (owns (u64 ∷ MutSlice (named 0) κ₀ u64 ∷ MutSlice (named 1) κ₁ u8 ∷ MutSlice (named 2) κ₂ R ∷ ShrSlice (named 3) κ₃ u8 ∷ []) a at) ∷ []) ∵
@@ -219,9 +219,9 @@ module _ {M : Type 1} (𝓤 : URA M) (H : Heap 𝓤) (A : Atoms 𝓤) (W : Given
 
 module _ {M : Type 1} (𝓤 : URA M) (H : Heap 𝓤) (A : Atoms 𝓤) (W : Given 𝓤 H A) (mem : Memory → SProp 𝓤) (run : Routine → Fun 𝓤) where
   temelyak-serve-walks : (C : Calls 𝓤 H) (Λ : Loops 𝓤 H) → FmC 𝓤 H (W .laws) C
-      → Triple 𝓤 (C #bridge·lent-ledger) (LentLedger 𝓤 H A mem run)
+      → Triple 𝓤 (C #words·lent-ledger) (LentLedger 𝓤 H A mem run)
       → Triple 𝓤 (C #desk·serve) (Serve 𝓤 H A mem run)
-      → Triple 𝓤 (C #bridge·settle) (Settle 𝓤 H A mem run)
+      → Triple 𝓤 (C #words·settle) (Settle 𝓤 H A mem run)
       → Walks 𝓤 H A temelyak-serve.ended stayed (WpFn 𝓤 H C Λ code.function) (temelyak-serve.clauses 𝓤 H A mem run)
   temelyak-serve-walks C Λ fm known-lent-ledger known-serve known-settle =
       walked 𝓤 H A temelyak-serve.ended stayed (temelyak-serve.clauses 𝓤 H A mem run) (WpFn 𝓤 H C Λ code.function)
@@ -230,9 +230,9 @@ module _ {M : Type 1} (𝓤 : URA M) (H : Heap 𝓤) (A : Atoms 𝓤) (W : Given
       (λ κs qs bounds a g are. via 𝓤 _ (fst∗ 𝓤 _ (emp 𝓤)) (walk 𝓤 H A W mem run (κs .0) (κs .1 .0) (κs .1 .1 .0) (κs .1 .1 .1 .0) (qs .0) (qs .1 .0) (qs .1 .1 .0) (qs .1 .1 .1 .0) (a .0) (a .1 .0 .ptr .0) (a .1 .0 .ptr .1) (a .1 .0 .name) (a .1 .0 .now) (a .1 .1 .0) (a .1 .1 .1 .0) (a .1 .1 .1 .1 .0) (are .0 .1) (are .1 .0 .0 .1) (are .1 .1 .0 .0 .1) (are .1 .1 .1 .0 .0 .1) (are .1 .1 .1 .1 .0 .0 .1) C Λ fm known-lent-ledger known-serve known-settle))
 
 temelyak-serve-meets : {M : Type 1} (𝓤 : URA M) (H : Heap 𝓤) (A : Atoms 𝓤) (W : Given 𝓤 H A) (mem : Memory → SProp 𝓤) (run : Routine → Fun 𝓤) (𝓣 : Tables 𝓤 H)
-    → Triple 𝓤 (𝓣 .C #bridge·lent-ledger) (LentLedger 𝓤 H A mem run)
+    → Triple 𝓤 (𝓣 .C #words·lent-ledger) (LentLedger 𝓤 H A mem run)
     → Triple 𝓤 (𝓣 .C #desk·serve) (Serve 𝓤 H A mem run)
-    → Triple 𝓤 (𝓣 .C #bridge·settle) (Settle 𝓤 H A mem run)
+    → Triple 𝓤 (𝓣 .C #words·settle) (Settle 𝓤 H A mem run)
     → Meets 𝓤 H A temelyak-serve.signature (WpFn 𝓤 H (𝓣 .C) (𝓣 .Λ) code.function) (temelyak-serve.spec 𝓤 H A mem run)
 temelyak-serve-meets 𝓤 H A W mem run 𝓣 known-lent-ledger known-serve known-settle =
     walk-meets 𝓤 H A temelyak-serve.ended stayed W
@@ -246,6 +246,6 @@ temelyak-serve-spec 𝓤 H 𝓜 𝓖 𝓡 =
     entered 𝓤 H (tripleOf 𝓤 H (𝓖 .A) temelyak-serve.signature (temelyak-serve.spec 𝓤 H (𝓖 .A) (𝓜 .mem) (𝓡 .run)))
     (tables 𝓤 H 𝓜 𝓡 code.env .C) (tables 𝓤 H 𝓜 𝓡 code.env .Λ) #bridge·temelyak-serve code.function (code.unfolded 𝓤 H 𝓜 𝓡)
     (temelyak-serve-meets 𝓤 H (𝓖 .A) (givenOf 𝓤 H 𝓜 𝓖) (𝓜 .mem) (𝓡 .run) (tablesOf 𝓤 H 𝓜 (tables 𝓤 H 𝓜 𝓡 code.env))
-    (cited 𝓤 H (LentLedger 𝓤 H (𝓖 .A) (𝓜 .mem) (𝓡 .run)) 𝓜 𝓡 code.env #bridge·lent-ledger lent-ledger-def.routine code.calls-bridge·lent-ledger (lent-ledger-thm.met 𝓤 H 𝓜 𝓖 𝓡))
+    (cited 𝓤 H (LentLedger 𝓤 H (𝓖 .A) (𝓜 .mem) (𝓡 .run)) 𝓜 𝓡 code.env #words·lent-ledger lent-ledger-def.routine code.calls-words·lent-ledger (lent-ledger-thm.met 𝓤 H 𝓜 𝓖 𝓡))
     (cited 𝓤 H (Serve 𝓤 H (𝓖 .A) (𝓜 .mem) (𝓡 .run)) 𝓜 𝓡 code.env #desk·serve serve-def.routine code.calls-desk·serve (serve-thm.met 𝓤 H 𝓜 𝓖 𝓡))
-    (cited 𝓤 H (Settle 𝓤 H (𝓖 .A) (𝓜 .mem) (𝓡 .run)) 𝓜 𝓡 code.env #bridge·settle settle-def.routine code.calls-bridge·settle (settle-thm.met 𝓤 H 𝓜 𝓖 𝓡)))
+    (cited 𝓤 H (Settle 𝓤 H (𝓖 .A) (𝓜 .mem) (𝓡 .run)) 𝓜 𝓡 code.env #words·settle settle-def.routine code.calls-words·settle (settle-thm.met 𝓤 H 𝓜 𝓖 𝓡)))

@@ -3,8 +3,8 @@ use mathlib.Core.Path.{ap, _∙_}
 use Rattle.ledger.specs.declared.Ledger.{Ledger}
 use Rattle.ledger.specs.declared.Taken.{Taken}
 use Rattle.ledger.specs.Take.{mapAfter, takenOf}
-use Rattle.bridge.specs.Calls.{headed}
-use Rattle.bridge.specs.Inside.{settled}
+use Rattle.words.specs.Header.{headed}
+use Rattle.words.specs.Inside.{settled}
 use Rattle.bridge.proofs.CallLaws.{take-answer-is, take-words-is, take-map-is}
 use borrow.Author.Needs.{needs}
 use Rattle.bridge.proofs.temelyak_take.Statement.{statement}

@@ -7,8 +7,8 @@ use borrow.Author.Tests.{eq-eqb, ne-eqb}
 use Rattle.ledger.specs.declared.Ledger.{Ledger}
 use Rattle.book.specs.declared.Read.{Read}
 use Rattle.book.specs.Book.{readOf, mapRead}
-use Rattle.bridge.specs.Calls.{headed, ifAccepted}
-use Rattle.bridge.specs.Inside.{settled}
+use Rattle.words.specs.Header.{headed, ifAccepted}
+use Rattle.words.specs.Inside.{settled}
 use Rattle.bridge.proofs.CallLaws.{readTaken, readPair, book-answer-is, book-words-is, book-map-is, book-out-is, book-unpaired, book-left}
 use borrow.Author.Needs.{needs}
 use Rattle.bridge.proofs.temelyak_take_book.Statement.{statement}

@@ -1,0 +1,4 @@
+pub mod WordLaws
+pub mod WordsBack
+pub mod LentLaws
+pub mod OneOutcome

@@ -1,0 +1,37 @@
+-- An answer other than 0 leaves the words; 0 writes the ledger. Assumes nothing.
+use mathlib.Core.Path.{sym, _∙_}
+use Rattle.words.specs.Header.{headed}
+use Rattle.words.specs.Inside.{written, settled}
+use Rattle.words.proofs.LentLaws.{accepted-is, refused-is}
+use borrow.Author.Needs.{needs}
+use Rattle.words.proofs.settle.Statement.{statement}
+use Rattle.words.proofs.settle.Tie as tie
+
+answer-by-requires : tie.Need-answer-by-requires
+answer-by-requires c κs = search needs
+
+returns : tie.Need-returns
+unfolding settled
+returns c =
+    let a = c .before .before .before .args in
+    let e = c .before .answer-by .ensures in
+    (e, sym (refused-is (headed (a .header) (a .taken .answer)) (written (a .words .now) (a .taken .ledger)) (a .words .now) (λ z. c .if1 .taken (e ∙ z))))
+
+write-requires : tie.Need-write-requires
+write-requires c κs = search needs
+
+same-length : tie.Need-same-length
+same-length c = search needs
+
+returns-2 : tie.Need-returns-2
+unfolding settled
+returns-2 c =
+    let a = c .before .before .before .before .before .before .before .before .args in
+    let e = c .before .before .before .before .before .before .answer-by .ensures in (
+      e,
+      c .before .before .write .ensures ∙
+          sym (accepted-is (headed (a .header) (a .taken .answer)) (written (a .words .now) (a .taken .ledger)) (a .words .now) (sym e ∙ c .before .before .before .before .before .if1 .left)),
+    )
+
+pub settle-spec : {M : Type 1} → statement M
+settle-spec = tie.close (tie.spec answer-by-requires returns write-requires same-length returns-2)
