@@ -3,3 +3,4 @@ pub mod TestLaws
 pub mod ChainLaws
 pub mod ListLaws
 pub mod OneOutcome
+pub mod PlaceLaws

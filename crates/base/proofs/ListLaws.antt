@@ -2,14 +2,14 @@
 use Prim.Native.Nat.{ℕ, zero, suc, _+_, _<_, _≤_}
 use mathlib.Core.Path.{_≡_, refl, ap, _∙_, sym}
 use mathlib.Core.Bool.{Bool, true, false, _&&_, _||_, or-assoc, or-false, and-assoc, and-true}
-use mathlib.Core.List.{List, [], _∷_}
+use mathlib.Core.List.{List, [], _∷_, _++_}
 use lib.ListN.{length, getD, set, drop, drop-of-length-le}
 use lib.Seq.{drop-cons}
 use lib.Dec.{eqb}
 use native.Mathlib.Numerals.{add-one}
 use borrow.Author.Tests.{eq-eqb, ne-eqb}
 use native.Mathlib.Nat.{le-of-suc-le-suc, not-suc-le-zero}
-use Rattle.base.specs.Lists.{every, any, listed}
+use Rattle.base.specs.Lists.{every, listed, All}
 use Rattle.base.proofs.TestLaws.{and-left, and-right, and-both}
 
 -- a test of every element that has seen the first i, and goes on
@@ -53,3 +53,17 @@ module _ (x i : ℕ) (t : List ℕ) where
 
   pub listed-none : length t ≤ i → listed x (drop i t) ≡ false
   listed-none h = listed-ends x i false t h
+
+-- what holds of each of two lists holds of each of the two put one after the other, and back
+module _ {A : Type 0} (P : A → Type 0) where
+  pub all-append : (xs ys : List A) → All P xs → All P ys → All P (xs ++ ys)
+  all-append [] ys a b = b
+  all-append (x ∷ xs) ys a b = (a .0, all-append xs ys (a .1) b)
+
+  pub all-front : (xs ys : List A) → All P (xs ++ ys) → All P xs
+  all-front [] ys a = tt
+  all-front (x ∷ xs) ys a = (a .0, all-front xs ys (a .1))
+
+  pub all-back : (xs ys : List A) → All P (xs ++ ys) → All P ys
+  all-back [] ys a = a
+  all-back (x ∷ xs) ys a = all-back xs ys (a .1)

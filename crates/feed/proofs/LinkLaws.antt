@@ -53,15 +53,15 @@ module _ (b : List ℕ) (filled : ℕ) (l : filled ≤ length b) where
   unfolding moved
   moved-is = rw (le-ltb (length b) filled l)
 
-  rest-moved : take (heldAfter b filled) (moved b stop filled) ≡ restOf (take filled b)
+  pub rest-moved : take (heldAfter b filled) (moved b stop filled) ≡ restOf (take filled b)
   rest-moved = ap (take (heldAfter b filled)) moved-is ∙ take-at (restOf (take filled b)) (drop (heldAfter b filled) b) (heldAfter b filled) rest-long
 
-  dead-moved : deadRest (moved b stop filled) (heldAfter b filled) ≡ deadRest (restOf (take filled b)) (length (restOf (take filled b)))
+  pub dead-moved : deadRest (moved b stop filled) (heldAfter b filled) ≡ deadRest (restOf (take filled b)) (length (restOf (take filled b)))
   dead-moved =
       (λ i. deadRest (moved-is i) (sym rest-long i)) ∙
       dead-front (restOf (take filled b)) (drop (heldAfter b filled) b) (test (leb 2 (length (restOf (take filled b)))))
 
-  moved-long : stop ≤ filled → length (moved b stop filled) ≡ length b
+  pub moved-long : stop ≤ filled → length (moved b stop filled) ≡ length b
   moved-long s =
       ap length moved-is ∙ length-append (restOf (take filled b)) (drop (heldAfter b filled) b) ∙
       (let d : length (drop (heldAfter b filled) b) ≡ length b - heldAfter b filled = length-drop (heldAfter b filled) b in
@@ -184,22 +184,24 @@ module _ (data-so-far : List ℕ) (bytes : (i : ℕ) → getD data-so-far i 0 < 
   pub never-full : deadRest left (length left) ≡ false → length left < 65535
   never-full d = full-either d (test (leb 2 (length left))) (test (ltb (le16 left 0) 4)) (test (leb (le16 left 0) (length left)))
 
--- so a feed whose bytes are not dead holds fewer than 65,535 after a call
-module _ (f : Feed) (m b : List ℕ) (filled : ℕ) (u : unfed f m b filled ≡ false) (bytes : (i : ℕ) → getD b i 0 < 256) where
+-- so what is held after a piece, where it is not dead, is below 65,535 bytes
+module _ (b : List ℕ) (filled : ℕ) (l : filled ≤ length b) (bytes : (i : ℕ) → getD b i 0 < 256) where
   byte-either : (i : ℕ) → Tested (ltb i filled) → getD (take filled b) i 0 < 256
   byte-either i (holds e) = omega (arith, getD-take filled b i 0 (ltb-true i filled e), bytes i)
   byte-either i (fails e) =
       let past : filled ≤ i = ltb-false i filled e in
       omega (arith, List·getD-eq-default (take filled b) 0 {n = i} (omega (arith, length-take filled b)))
 
+  pub held-few : deadRest (moved b (stopFrom (take filled b) 0) filled) (heldAfter b filled) ≡ false → heldAfter b filled < 65535
+  held-few d =
+      omega (arith, rest-long b filled l, never-full (take filled b) (λ i. byte-either i (test (ltb i filled))) (sym (dead-moved b filled l) ∙ d))
+
+module _ (f : Feed) (m b : List ℕ) (filled : ℕ) (u : unfed f m b filled ≡ false) (bytes : (i : ℕ) → getD b i 0 < 256) where
   pub feed-has-room : f .dead ≡ false → fedOf f m b filled .feed .dead ≡ false → fedOf f m b filled .feed .held < 65535
   feed-has-room d after =
-      let l : filled ≤ length b = buffer-long f m b filled u in
       let t = after-taken f m b filled u d in
-      let not-dead : deadRest (restOf (take filled b)) (length (restOf (take filled b))) ≡ false =
-      sym (dead-moved b filled l) ∙ ap (λ (r : Fed). r .feed .dead) (sym (t .0)) ∙ after in
-      let held : fedOf f m b filled .feed .held ≡ length (restOf (take filled b)) = ap (λ (r : Fed). r .feed .held) (t .0) ∙ sym (rest-long b filled l) in
-      omega (arith, never-full (take filled b) (λ i. byte-either i (test (ltb i filled))) not-dead)
+      let held : fedOf f m b filled .feed .held ≡ heldAfter b filled = ap (λ (r : Fed). r .feed .held) (t .0) in
+      omega (arith, held-few b filled (buffer-long f m b filled u) bytes (ap (λ (r : Fed). r .feed .dead) (sym (t .0)) ∙ after))
 
 -- the map keeps its size
 map-kept : (st : State) (ss : List (List ℕ)) → length (takeAll st ss .map) ≡ length (st .map)

@@ -24,14 +24,14 @@ pub struct Fed {
 }
 
 // Whether the first bytes of a buffer state a length below 4.
-fn is_dead(buffer: &[u8], held: usize) -> bool
+pub fn is_dead(buffer: &[u8], held: usize) -> bool
     ensures { λ r. ⌜ r ≡ deadRest (now (buffer .entry)) held ⌝ }
 {
     (2 <= held) & (wire::u16_at(buffer, 0) < 4)
 }
 
 // Moves the bytes between two places of a buffer to its front; those past them stay as lent.
-fn move_to_front(buffer: &mut [u8], start: usize, end: usize)
+pub fn move_to_front(buffer: &mut [u8], start: usize, end: usize)
     ensures { λ r. ⌜ now (buffer .exit) ≡ moved (now (buffer .entry)) start end ⌝ }
 {
     if buffer.len() < end {

@@ -1,4 +1,4 @@
--- Lists put one after the other: what holds of each element, which are kept, and sums. Assumes nothing.
+-- The elements of a list that are kept, and lists put one after the other: which are kept, and sums. Assumes nothing.
 use Prim.Native.Nat.{ℕ, _+_}
 use mathlib.Core.Path.{_≡_, refl, sym, ap, _∙_}
 use mathlib.Core.List.{List, [], _∷_, _++_, map}
@@ -7,19 +7,8 @@ use native.Mathlib.Nat.{zero-add}
 use native.Mathlib.Omega.{arith}
 use Rattle.base.specs.Lists.{All, keep, sum}
 
+-- what holds of each holds of those that are kept
 module _ {A : Type 0} (P : A → Type 0) where
-  pub all-append : (xs ys : List A) → All P xs → All P ys → All P (xs ++ ys)
-  all-append [] ys a b = b
-  all-append (x ∷ xs) ys a b = (a .0, all-append xs ys (a .1) b)
-
-  pub all-front : (xs ys : List A) → All P (xs ++ ys) → All P xs
-  all-front [] ys a = tt
-  all-front (x ∷ xs) ys a = (a .0, all-front xs ys (a .1))
-
-  pub all-back : (xs ys : List A) → All P (xs ++ ys) → All P ys
-  all-back [] ys a = a
-  all-back (x ∷ xs) ys a = all-back xs ys (a .1)
-
   pub all-keep : (f : A → Bool) (xs : List A) → All P xs → All P (keep f xs)
   all-keep f [] a = tt
   all-keep f (x ∷ xs) a = go (f x) (all-keep f xs (a .1))

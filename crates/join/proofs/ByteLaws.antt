@@ -8,6 +8,7 @@ use lib.ListN.{getD}
 use lib.Dec.{eqb}
 use native.Mathlib.Omega.{arith}
 use Rattle.base.specs.Lists.{All, keep}
+use Rattle.base.proofs.ListLaws.{all-append, all-front, all-back}
 use Rattle.wire.specs.Numbers.{le16}
 use Rattle.wire.specs.Frame.{kindOf}
 use Rattle.wire.specs.Cut.{recordsOf, joined}
@@ -16,7 +17,7 @@ use Rattle.book.specs.Book.{isBroken}
 use Rattle.sums.specs.Theorem.{eventsOf}
 use Rattle.order.proofs.ShapeLaws.{whole-joined}
 use Rattle.join.specs.Join.{Byte, Bytes, joinedBook}
-use Rattle.join.proofs.AppendLaws.{all-append, all-front, all-back, all-keep, keep-append, keep-again}
+use Rattle.join.proofs.AppendLaws.{all-keep, keep-append, keep-again}
 
 joined-append : (rs ss : List (List ℕ)) → joined (rs ++ ss) ≡ joined rs ++ joined ss
 joined-append [] ss = refl

@@ -9,9 +9,10 @@ use lib.Dec.{eqb}
 use native.Mathlib.Omega.{arith}
 use borrow.Author.Tests.{eqb-true, eqb-false, ne-eqb}
 use Rattle.base.specs.Lists.{All, listed, keep}
+use Rattle.base.proofs.ListLaws.{all-append, all-back}
 use Rattle.base.proofs.TestLaws.{or-left, or-right, or-both}
 use Rattle.order.specs.Each.{Apart, Different}
-use Rattle.join.proofs.AppendLaws.{all-append, all-back, all-keep}
+use Rattle.join.proofs.AppendLaws.{all-keep}
 
 abbrev Within : ℕ → ℕ → Type 0
 Within k x = (1 ≤ x) × (x ≤ k)

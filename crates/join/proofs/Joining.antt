@@ -12,6 +12,7 @@ use lib.Dec.{eqb}
 use native.Mathlib.Omega.{arith}
 use borrow.Author.Tests.{eqb-true, not-false}
 use Rattle.base.specs.Lists.{All, listed, keep}
+use Rattle.base.proofs.ListLaws.{all-append}
 use Rattle.wire.specs.Frame.{kindOf}
 use Rattle.wire.specs.Cut.{cutIn, recordsOf, joined}
 use Rattle.marks.specs.Marks.{marked}
@@ -28,7 +29,6 @@ use Rattle.order.specs.Each.{Right, numberIn, Different, Unmarked, withEvent, w
 use Rattle.order.proofs.EachLaws.{right-number, right-not-sheet}
 use Rattle.order.proofs.ShapeLaws.{Shape, no-bytes, sheet-then, accepted-shape, accepted-told, told-taken, told-end, told-accepted, told-counted}
 use Rattle.join.specs.Join.{Bytes, numbersIn, SharesNone, sheetsOf, SameSheet, joinedBook, bookMap, JoinAdds}
-use Rattle.join.proofs.AppendLaws.{all-append}
 use Rattle.join.proofs.DifferentLaws.{at-most, different-append, different-shares-none, none-listed}
 use Rattle.join.proofs.ByteLaws.{join-is, join-records, join-events, bytes-records, two-bytes}
 use Rattle.join.proofs.TotalLaws.{customers-append, halves-append, short-append}

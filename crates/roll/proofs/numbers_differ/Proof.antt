@@ -46,7 +46,7 @@ loop-again c =
     let l = c .before .before .loop in (
       search needs,
       l .inv .1 ∙
-          differ-more 0 t (l .i) (search needs) (l .ok) ∙
+          differ-more t (l .i) (l .ok) (search needs) ∙
           (λ j. l .ok && (eqb (getD t (l .i) 0) 0 || not (sym (c .listed-from .ensures) j)) && differ (drop (l .i + 1) t)),
       search needs,
     )

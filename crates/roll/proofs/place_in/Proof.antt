@@ -3,7 +3,7 @@ use Prim.Native.Nat.{_-_}
 use mathlib.Core.Path.{_≡_, sym, _∙_}
 use lib.ListN.{length}
 use borrow.Author.Needs.{needs}
-use Rattle.roll.proofs.TableLaws.{Come, begins, passes-on, found, ended}
+use Rattle.base.proofs.PlaceLaws.{Come, begins, passes-on, found, ended}
 use Rattle.roll.proofs.place_in.Statement.{statement}
 use Rattle.roll.proofs.place_in.Tie as tie
 

@@ -1,0 +1,4 @@
+pub mod FlowLaws
+pub mod PieceLaws
+pub mod LinkLaws
+pub mod OneOutcome

@@ -1,0 +1,107 @@
+-- The tests at the start are those of `notTaken`. Where the piece is taken, the records are those of the first `filled` bytes, and what they leave over
+-- goes to the front. Assumes nothing.
+use Prim.Native.Nat.{_+_, _-_, _≤_}
+use mathlib.Core.Path.{_≡_, sym, ap, _∙_, subst⁻¹}
+use mathlib.Core.Bool.{false, _||_, not}
+use lib.Dec.{ltb}
+use lib.ListN.{length, take}
+use native.Mathlib.Omega.{arith}
+use borrow.Author.Needs.{needs}
+use Rattle.feed.specs.Feed.{deadRest, moved}
+use Rattle.yearly.specs.declared.Run.{Run}
+use Rattle.yearly.specs.Yearly.{runOf}
+use Rattle.inflow.specs.Inflow.{notTaken}
+use Rattle.inflow.proofs.FlowLaws.{flow-refused, flow-over, flow-taken, refused-few, stop-before, refused-of-piece}
+use Rattle.inflow.proofs.take_piece.Statement.{statement}
+use Rattle.inflow.proofs.take_piece.Tie as tie
+
+-- the test at the start, with what `sound` answered
+tested :
+    (c : tie.After-sound) →
+    (not (c .sound .result) || ltb (length (c .before .before .before .args .buffer .now)) (c .before .before .before .args .filled) || ltb 4611686018427387904 (c .before .before .before .args .f .refused)) ≡
+    notTaken (c .before .before .before .args .f) (c .before .before .before .args .buffer .now) (c .before .before .before .args .filled)
+tested c = let a = c .before .before .before .args in λ i. not (c .sound .ensures i) || ltb (length (a .buffer .now)) (a .filled) || ltb 4611686018427387904 (a .f .refused)
+
+fine : (c : tie.Else1) → notTaken (c .before .before .before .before .before .args .f) (c .before .before .before .before .before .args .buffer .now) (c .before .before .before .before .before .args .filled) ≡ false
+fine c = sym (tested (c .before .before)) ∙ c .if1 .left
+
+-- the records that were taken are those of the first `filled` bytes
+run-is : (c : tie.After-take-records) → c .take-records .result ≡ runOf (c .before .before .before .before .before .before .before .before .before .args .f .table) (take (c .before .before .before .before .before .before .before .before .before .args .filled) (c .before .before .before .before .before .before .before .before .before .args .buffer .now))
+run-is c =
+    let a = c .before .before .before .before .before .before .before .before .before .args in
+    let all : a .filled - 0 ≡ a .filled = omega arith in
+    c .take-records .ensures ∙ ap (runOf (a .f .table)) (c .before .part .ensures ∙ ap (λ n. take n (a .buffer .now)) all)
+
+sound-requires : tie.Need-sound-requires
+sound-requires c κs = search needs
+
+returns : tie.Need-returns
+returns c =
+    let a = c .before .before .before .before .before .args in
+    flow-refused (a .f) (a .buffer .now) (a .filled) (sym (tested (c .before .before)) ∙ c .if1 .taken)
+
+returns-2 : tie.Need-returns-2
+returns-2 c =
+    let a = c .before .before .before .before .before .before .args in
+    flow-over (a .f) (a .buffer .now) (a .filled) (fine (c .before)) (c .if2 .taken)
+
+part-requires : tie.Need-part-requires
+part-requires c κs = search needs
+
+take-records-requires : tie.Need-take-records-requires
+take-records-requires c κs = search needs
+
+sub-held : tie.Need-sub-held
+sub-held c =
+    let a = c .before .before .before .before .before .before .before .before .before .before .before .args in
+    subst⁻¹ (λ (r : Run). r .stop ≤ a .filled) (run-is (c .before .before)) (stop-before (a .f) (a .buffer .now) (a .filled) (fine (c .before .before .before .before .before .before)))
+
+move-to-front-requires : tie.Need-move-to-front-requires
+move-to-front-requires c κs = search needs
+
+add-t21 : tie.Need-add-t21
+add-t21 c =
+    let a = c .before .before .before .before .before .before .before .before .before .before .before .before .before .before .before .before .before .args in
+    let u = fine (c .before .before .before .before .before .before .before .before .before .before .before .before) in
+    let few : c .before .before .before .before .before .before .before .before .take-records .result .refused ≤ length (a .buffer .now) =
+    subst⁻¹ (λ (r : Run). r .refused ≤ length (a .buffer .now)) (run-is (c .before .before .before .before .before .before .before .before)) (refused-of-piece (a .f) (a .buffer .now) (a .filled) u) in
+    omega (arith, refused-few (a .f) (a .buffer .now) (a .filled) u, c .before .before .before .before .before .before .before .before .before .before .before .before .before .before .before .before .before .good .1 .0)
+
+is-dead-requires : tie.Need-is-dead-requires
+is-dead-requires c κs = search needs
+
+same-length : tie.Need-same-length
+same-length c = search needs
+
+returns-3 : tie.Need-returns-3
+returns-3 c =
+    let a = c .before .before .before .before .before .before .before .before .before .before .before .before .before .before .before .before .before .before .before .args in
+    let b = a .buffer .now in
+    let run = run-is (c .before .before .before .before .before .before .before .before .before .before) in
+    let h = flow-taken (a .f) b (a .filled) (fine (c .before .before .before .before .before .before .before .before .before .before .before .before .before .before)) (c .before .before .before .before .before .before .before .before .before .before .before .before .before .if2 .left) in
+    let there = c .before .before .before .before .before .before .move-to-front .ensures ∙ ap (λ (r : Run). moved b (r .stop) (a .filled)) run in
+    let dead = c .is-dead .ensures ∙ (λ i. deadRest (there i) (a .filled - run i .stop)) in (
+      (λ i.
+          record {
+            answer = 0;
+            flow = record { table = run i .table; refused = a .f .refused + run i .refused; held = a .filled - run i .stop; dead = dead i };
+          }) ∙
+          h .0,
+      there ∙ h .1,
+    )
+
+pub take-piece-spec : {M : Type 1} → statement M
+take-piece-spec =
+    tie.close
+    (tie.spec
+    sound-requires
+    returns
+    returns-2
+    part-requires
+    take-records-requires
+    sub-held
+    move-to-front-requires
+    add-t21
+    is-dead-requires
+    same-length
+    returns-3)

@@ -1,0 +1,60 @@
+-- The whole part, a point and three times two digits after one another are the figure's text; a refusal is one byte. Assumes nothing.
+use Rattle.text.proofs.TextLaws.{pushed-all-append}
+use borrow.Author.Needs.{needs}
+use Rattle.listing.proofs.with_six.Statement.{statement}
+use Rattle.listing.proofs.with_six.Tie as tie
+use Rattle.listing.proofs.with_six.Reads as reads
+
+enum-known-s : tie.Need-enum-known-s
+enum-known-s c = search needs
+
+with-number-requires : tie.Need-with-number-requires
+with-number-requires c κs = search needs
+
+with-byte-requires : tie.Need-with-byte-requires
+with-byte-requires c κs = search needs
+
+with-two-requires : tie.Need-with-two-requires
+with-two-requires c κs = search needs
+
+with-two-requires-2 : tie.Need-with-two-requires-2
+with-two-requires-2 c κs = search needs
+
+with-two-requires-3 : tie.Need-with-two-requires-3
+with-two-requires-3 c κs = search needs
+
+enum-told : tie.Need-enum-told
+enum-told c = search needs
+
+with-byte-requires-2 : tie.Need-with-byte-requires-2
+with-byte-requires-2 c κs = search needs
+
+returns : tie.Need-returns
+returns c =
+    rw (c .before .before .before .before .before .before .before .before .s .given .1)
+    (simp (
+      pushed-all-append,
+      c .with-two3 .ensures,
+      c .before .with-two2 .ensures,
+      c .before .before .before .with-two .ensures,
+      c .before .before .before .before .before .with-byte .ensures,
+      c .before .before .before .before .before .before .with-number .ensures,
+    ))
+
+returns-2 : tie.Need-returns-2
+returns-2 c = rw (c .before .enum-told .given .1) (c .with-byte2 .ensures)
+
+pub with-six-spec : {M : Type 1} → statement M
+with-six-spec =
+    tie.close
+    (tie.spec
+    enum-known-s
+    with-number-requires
+    with-byte-requires
+    with-two-requires
+    with-two-requires-2
+    with-two-requires-3
+    enum-told
+    with-byte-requires-2
+    returns
+    returns-2)

@@ -1,0 +1,5 @@
+pub mod FigureLaws
+pub mod ExactlyThen
+pub mod RateLaws
+pub mod ShownLaws
+pub mod OneOutcome

@@ -1,0 +1,28 @@
+-- A fraction is shown by `decimal_of`, and a refusal stays one. Assumes nothing.
+use mathlib.Core.Path.{sym, ap, _∙_}
+use Rattle.rates.specs.Rates.{shownFigure}
+use borrow.Author.Needs.{needs}
+use Rattle.rates.proofs.shown.Statement.{statement}
+use Rattle.rates.proofs.shown.Tie as tie
+
+enum-known-figure : tie.Need-enum-known-figure
+enum-known-figure c = search needs
+
+decimal-of-requires : tie.Need-decimal-of-requires
+decimal-of-requires c κs = search needs
+
+enum-known-figure-2 : tie.Need-enum-known-figure-2
+enum-known-figure-2 c = search needs
+
+returns : tie.Need-returns
+returns c =
+    c .decimal-of .ensures ∙ ap (λ a. shownFigure a (c .before .before .before .before .args .digits)) (sym (c .before .before .figure .given .1))
+
+returns-2 : tie.Need-returns-2
+returns-2 c =
+    ap (λ a. shownFigure a (c .before .before .before .args .digits)) (sym (c .before .figure2 .given .1))
+
+pub shown-spec : {M : Type 1} → statement M
+shown-spec =
+    tie.close
+    (tie.spec enum-known-figure decimal-of-requires enum-known-figure-2 returns returns-2)

@@ -1,0 +1,25 @@
+-- A store past the last row changes nothing; any other is the definition's. Assumes nothing.
+use mathlib.Core.Path.{sym}
+use lib.ListN.{length-map}
+use native.Mathlib.Omega.{arith}
+use lib.Seq.{set-out}
+use borrow.Author.Needs.{needs}
+use Rattle.table.proofs.Table.with_row.Statement.{statement}
+use Rattle.table.proofs.Table.with_row.Tie as tie
+
+returns : tie.Need-returns
+returns c =
+    let a = c .before .args in
+    λ i. record { period = a .t1 .period; seen = a .t1 .seen; rows = sym (set-out (a .t1 .rows) (a .at) (a .row) (omega (arith, simp length-map at (c .before .good .0 .1 .1 .1 .1 .0 .1 .0 .1)))) i }
+
+mul-row : tie.Need-mul-row
+mul-row c = search needs
+
+element-set-from-row : tie.Need-element-set-from-row
+element-set-from-row c = search needs
+
+returns-2 : tie.Need-returns-2
+returns-2 c = search needs
+
+pub with-row-spec : {M : Type 1} → statement M
+with-row-spec = tie.close (tie.spec returns mul-row element-set-from-row returns-2)

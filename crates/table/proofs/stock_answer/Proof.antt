@@ -1,0 +1,56 @@
+-- The rules of a stock in order: each return names the rule that is foremost, and the last that none applies. Assumes nothing.
+use mathlib.Core.Path.{_≡_, sym, ap, _∙_}
+use mathlib.Core.Bool.{not, _||_}
+use lib.Dec.{ltb}
+use borrow.Author.Tests.{eq-eqb, ne-eqb}
+use Rattle.elements.specs.Elements.{elementListed}
+use Rattle.table.specs.Fields.{codeIn, unitIn}
+use borrow.Author.Needs.{needs}
+use Rattle.table.proofs.stock_answer.Statement.{statement}
+use Rattle.table.proofs.stock_answer.Tie as tie
+
+-- the test of code and stock byte is that of the two in the bytes
+tested :
+    (c : tie.After-byte-at) →
+    let s = c .before .before .before .before .before .before .before .args .bytes .now in
+    (not (c .before .is-element .result) || ltb 1 (c .byte-at .result)) ≡ (not (elementListed (codeIn s)) || ltb 1 (unitIn s))
+tested c =
+    let listed = c .before .is-element .ensures ∙ ap elementListed (c .before .before .u16-at .ensures) in
+    λ i. not (listed i) || ltb 1 (c .byte-at .ensures i)
+
+returns : tie.Need-returns
+returns c = sym (rw (ne-eqb _ _ (c .if1 .taken)))
+
+returns-2 : tie.Need-returns-2
+returns-2 c = sym (rw (eq-eqb _ _ (c .before .before .if1 .left), c .if2 .taken))
+
+u16-at-requires : tie.Need-u16-at-requires
+u16-at-requires c κs = search needs
+
+is-element-requires : tie.Need-is-element-requires
+is-element-requires c κs = search needs
+
+byte-at-requires : tie.Need-byte-at-requires
+byte-at-requires c κs = search needs
+
+returns-3 : tie.Need-returns-3
+returns-3 c =
+    let e = c .before .before .before .before in
+    sym (rw (eq-eqb _ _ (e .before .before .if1 .left), e .if2 .left, sym (tested (c .before)) ∙ c .if3 .taken))
+
+returns-4 : tie.Need-returns-4
+returns-4 c =
+    let e = c .before .before .before .before in
+    sym (rw (eq-eqb _ _ (e .before .before .if1 .left), e .if2 .left, sym (tested (c .before)) ∙ c .if3 .left))
+
+pub stock-answer-spec : {M : Type 1} → statement M
+stock-answer-spec =
+    tie.close
+    (tie.spec
+    returns
+    returns-2
+    u16-at-requires
+    is-element-requires
+    byte-at-requires
+    returns-3
+    returns-4)

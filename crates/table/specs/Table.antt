@@ -1,0 +1,48 @@
+-- "An element table is begun for an observation period of 1 to 50 whole years and fed one or more yearly files" (02, K1): what it holds, when it is
+-- sound, how it and a file are begun.
+use Prim.Native.Nat.{ℕ, _*_}
+use mathlib.Core.List.{List}
+use mathlib.Core.Bool.{Bool, true, false, _&&_, _||_, not, cond}
+use lib.ListN.{getD, replicate}
+use lib.Dec.{leb, ltb, eqb}
+use Rattle.base.specs.Lists.{every}
+use Rattle.elements.specs.Elements.{elementCount}
+use Rattle.table.specs.declared.Row.{Row}
+use Rattle.table.specs.declared.Table.{Table}
+use Rattle.table.specs.declared.Filed.{Filed}
+
+-- no outage, and no stock told
+abbrev pub noRow : Row
+noRow = record { outages = 0; minutes = 0; stock = 0; amount = 0 }
+
+abbrev pub begun : ℕ → Table
+begun period = record { period = period; seen = false; rows = replicate elementCount noRow }
+
+-- "an observation period of 1 to 50 whole years"
+abbrev pub periodWithin : ℕ → Bool
+periodWithin period = leb 1 period && leb period 50
+
+-- 24: "a period outside 1 to 50"; the table that is then handed out has no period, and every call refuses it
+unfoldable pub beginOf : ℕ → Filed
+beginOf period = cond (periodWithin period) (record { answer = 0; table = begun period }) (record { answer = 24; table = begun 0 })
+
+-- the row of an element; past the last there is none
+abbrev pub rowOr : List Row → ℕ → Row
+rowOr rows at = getD rows at noRow
+
+-- "outages over 65,535, minutes over outages x 600,000, a stock mark that is none of its values, no stock marked but an amount not 0"
+abbrev pub rowWithin : Row → Bool
+rowWithin r =
+    leb (r .outages) 65535 && leb (r .minutes) (r .outages * 600000) && leb (r .stock) 2 && (ltb 0 (r .stock) || eqb (r .amount) 0)
+
+-- not "1 a table past its bounds (period not 1 to 50, ..)"
+unfoldable pub soundTable : Table → Bool
+soundTable t = periodWithin (t .period) && every rowWithin (t .rows)
+
+-- the table with the sheet-seen mark set or cleared
+abbrev pub marked : Bool → Table → Table
+marked seen t = record { period = t .period; seen = seen; rows = t .rows }
+
+-- "A file is begun by a call of its own, which clears the sheet-seen mark"
+unfoldable pub fileBegun : Table → Filed
+fileBegun t = cond (soundTable t) (record { answer = 0; table = marked false t }) (record { answer = 1; table = t })

@@ -1,0 +1,39 @@
+-- What an accepted record does to a table; "a refusal hands the table back as it was" (02, K1).
+use Prim.Native.Nat.{ℕ, _+_, _-_}
+use mathlib.Core.List.{List}
+use mathlib.Core.Bool.{true, cond}
+use lib.ListN.{set}
+use lib.Dec.{eqb}
+use Rattle.wire.specs.Frame.{kindOf}
+use Rattle.elements.specs.Elements.{rowOf}
+use Rattle.table.specs.declared.Row.{Row}
+use Rattle.table.specs.declared.Table.{Table}
+use Rattle.table.specs.declared.Filed.{Filed}
+use Rattle.table.specs.Table.{rowOr, marked}
+use Rattle.table.specs.Fields.{codeIn, startIn, endIn, unitIn, amountIn}
+use Rattle.table.specs.Rules.{rowNamed, answerOf}
+
+-- one outage more, of so many minutes
+abbrev pub withOutage : Row → ℕ → Row
+withOutage r minutes = record { outages = r .outages + 1; minutes = r .minutes + minutes; stock = r .stock; amount = r .amount }
+
+-- the stock told: pieces are marked 1, a line 2
+abbrev pub withStock : Row → ℕ → ℕ → Row
+withStock r unit amount = record { outages = r .outages; minutes = r .minutes; stock = unit + 1; amount = amount }
+
+-- the table with another row for an element
+abbrev pub withRow : Table → ℕ → Row → Table
+withRow t at r = record { period = t .period; seen = t .seen; rows = set (t .rows) at r }
+
+-- what an accepted record of each kind comes to: the sheet is seen, the outage is counted, the stock is told
+abbrev pub acceptedAt : ℕ → Table → List ℕ → Table
+acceptedAt kind t s =
+    cond (eqb kind 1) (marked true t)
+    (cond (eqb kind 4) (withRow t (rowOf (codeIn s)) (withOutage (rowNamed t s) (endIn s - startIn s)))
+    (withRow t (rowOf (codeIn s)) (withStock (rowNamed t s) (unitIn s) (amountIn s))))
+
+unfoldable pub tableAfter : Table → List ℕ → Table
+tableAfter t s = cond (eqb (answerOf t s) 0) (acceptedAt (kindOf s) t s) t
+
+abbrev pub takenOf : Table → List ℕ → Filed
+takenOf t s = record { answer = answerOf t s; table = tableAfter t s }

@@ -1,0 +1,6 @@
+pub mod SumLaws
+pub mod TallyLaws
+pub mod FileLaws
+pub mod Turning
+pub mod Joining
+pub mod Cases

@@ -1,0 +1,4 @@
+pub mod Tally
+pub mod Turned
+pub mod Join
+pub mod Needed

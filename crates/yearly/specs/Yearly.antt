@@ -1,0 +1,81 @@
+-- "A yearly element file, framed like the book and starting with a year sheet" (02, K1), taken record by record; "a broken length (2) ends that
+-- file's reading".
+use Prim.Native.Nat.{ℕ, _+_}
+use mathlib.Core.Path.{_≡_}
+use mathlib.Core.List.{List, [], _∷_}
+use mathlib.Core.Bool.{Bool, true, false, cond}
+use lib.Dec.{eqb}
+use Rattle.wire.specs.Cut.{recordsOf, stopFrom, endsBy}
+use Rattle.table.specs.declared.Table.{Table}
+use Rattle.table.specs.Table.{soundTable, marked}
+use Rattle.table.specs.Rules.{answerOf}
+use Rattle.table.specs.Take.{tableAfter}
+use Rattle.yearly.specs.declared.Run.{Run}
+use Rattle.yearly.specs.declared.Reading.{Reading}
+
+-- a table, and the records refused so far
+pub record State : Type 0 where
+  pub table : Table
+  pub refused : ℕ
+
+abbrev pub starting : Table → State
+starting t = record { table = t; refused = 0 }
+
+abbrev pub oneIfRefused : ℕ → ℕ
+oneIfRefused answer = cond (eqb answer 0) 0 1
+
+-- one record, as the table's `take` takes it
+unfoldable pub takeRecord : State → List ℕ → State
+takeRecord st s = record { table = tableAfter (st .table) s; refused = st .refused + oneIfRefused (answerOf (st .table) s) }
+
+abbrev pub takeAll : State → List (List ℕ) → State
+takeAll st [] = st
+takeAll st (s ∷ ss) = takeAll (takeRecord st s) ss
+
+-- the state after the whole records of some bytes, with where and how the reading stopped
+abbrev pub afterRecords : Table → List ℕ → State
+afterRecords t bytes = takeAll (starting t) (recordsOf bytes)
+
+abbrev pub runOf : Table → List ℕ → Run
+runOf t bytes =
+    record {
+      table = afterRecords t bytes .table;
+      refused = afterRecords t bytes .refused;
+      stop = stopFrom bytes 0;
+      which = endsBy bytes;
+    }
+
+abbrev pub isBroken : List ℕ → Bool
+isBroken file = eqb (endsBy file) 2
+
+-- a file is begun, which clears the sheet-seen mark, and its records are taken
+abbrev pub afterFile : Table → List ℕ → State
+afterFile t file = afterRecords (marked false t) file
+
+-- an unsound table answers 1, and nothing is read
+unfoldable pub fileOf : Table → List ℕ → Reading
+fileOf t file =
+    cond (soundTable t)
+    (record {
+      answer = 0;
+      table = afterFile t file .table;
+      refused = afterFile t file .refused + cond (isBroken file) 1 0;
+      broken = isBroken file;
+    })
+    (record { answer = 1; table = t; refused = 0; broken = false })
+
+-- files one after the other
+abbrev pub afterFiles : Table → List (List ℕ) → Table
+afterFiles t [] = t
+afterFiles t (f ∷ fs) = afterFiles (afterFile t f .table) fs
+
+-- a file whose every record is accepted, at a table: it has a record, ends at a record's end, and nothing is refused
+pub record AcceptedFile (t : Table) (file : List ℕ) : Type 0 where
+  pub some : recordsOf file ≡ [] → ⊥
+  pub whole : isBroken file ≡ false
+  pub all : afterFile t file .refused ≡ 0
+
+-- files that are accepted one after the other
+abbrev pub AcceptedFiles : Table → List (List ℕ) → Type 0
+AcceptedFiles t [] = Unit {0}
+AcceptedFiles t (f ∷ fs) = AcceptedFile t f × AcceptedFiles (afterFile t f .table) fs
