@@ -186,6 +186,17 @@ pub shared-refused :
 unfolding cutIn recordsOf stopIn stopFrom placeAt codes elementListed rowOf soundTable answerOf tableAfter takeRecord
 shared-refused = (refl, refl, refl)
 
+-- one period: the same files under 2 years and under 5 come to the same rows and to two tables, so that one fed under 2 years and the other under 5
+-- have no one table with the sums
+pub periods-differ :
+    (tableOf 2 (joined year1 ∷ []) .period ≡ 2) ×
+    (tableOf 5 (joined year2 ∷ []) .period ≡ 5) ×
+    (tableOf 2 asFed .period ≡ 2) ×
+    (tableOf 5 asFed .period ≡ 5) ×
+    (tableOf 5 asFed .rows ≡ tableOf 2 asFed .rows)
+unfolding cutIn recordsOf stopIn stopFrom placeAt codes elementListed rowOf soundTable answerOf tableAfter takeRecord
+periods-differ = (refl, refl, refl, refl, refl)
+
 -- an element with 65,535 outages, in a sound table that is lent so: the next outage is refused 15, and with 65,534 it is accepted
 abbrev pub holding : ℕ → Table
 holding outages = marked true (withRow (begun 1) 0 (record { outages = outages; minutes = 0; stock = 0; amount = 0 }))
