@@ -147,7 +147,10 @@ fn stock_answer(seen: bool, row: Row, bytes: &[u8]) -> u8
     if bytes.len() != 11 {
         return 4;
     }
-    if !seen | (0 < row.stock) {
+    if !seen {
+        return 5;
+    }
+    if 0 < row.stock {
         return 5;
     }
     if !elements::is_element(wire::u16_at(bytes, 4)) | (1 < wire::byte_at(bytes, 6)) {

@@ -1,7 +1,9 @@
 -- The rules of an outage in order: each return names the rule that is foremost, and the last that none applies. Assumes nothing.
+use Prim.Native.Nat.{_<_, _≤_}
 use mathlib.Core.Path.{_≡_, sym, ap, _∙_}
 use mathlib.Core.Bool.{not, _||_}
 use lib.Dec.{ltb}
+use native.Mathlib.Omega.{arith}
 use borrow.Author.Tests.{eq-eqb, ne-eqb, le-leb, lt-leb}
 use Rattle.elements.specs.Elements.{elementListed}
 use Rattle.table.specs.Fields.{codeIn, startIn, endIn}
@@ -60,7 +62,9 @@ returns-5 c =
     let e = d .before .before .before in
     let known = ap not (sym (listed (e .before))) ∙ e .if3 .left in
     let right = sym (timed (d .before)) ∙ d .if4 .left in
-    sym (rw (eq-eqb _ _ (e .before .before .before .before .if1 .left), e .before .before .before .if2 .left, known, right, le-leb _ _ (c .if5 .taken)))
+    let r = e .before .before .before .before .before .before .args .row in
+    let many : 65535 ≤ r .outages = omega (arith, c .if5 .taken) in
+    sym (rw (eq-eqb _ _ (e .before .before .before .before .if1 .left), e .before .before .before .if2 .left, known, right, le-leb 65535 (r .outages) many))
 
 returns-6 : tie.Need-returns-6
 returns-6 c =
@@ -68,7 +72,9 @@ returns-6 c =
     let e = d .before .before .before in
     let known = ap not (sym (listed (e .before))) ∙ e .if3 .left in
     let right = sym (timed (d .before)) ∙ d .if4 .left in
-    sym (rw (eq-eqb _ _ (e .before .before .before .before .if1 .left), e .before .before .before .if2 .left, known, right, lt-leb _ _ (c .if5 .left)))
+    let r = e .before .before .before .before .before .before .args .row in
+    let few : r .outages < 65535 = omega (arith, c .if5 .left) in
+    sym (rw (eq-eqb _ _ (e .before .before .before .before .if1 .left), e .before .before .before .if2 .left, known, right, lt-leb 65535 (r .outages) few))
 
 pub outage-answer-spec : {M : Type 1} → statement M
 outage-answer-spec =
