@@ -1,0 +1,351 @@
+// A book from text: the name of a text as argument, the book that its lines stand for on standard output. The text is read twice, and nothing is written
+// unless all of it is right.
+use libc::STDERR_FILENO;
+use libc::STDOUT_FILENO;
+
+// More pieces than any file has: 2^40. Past them the reading has failed.
+const MOST_PIECES: u64 = 1099511627776;
+
+// More lines than the buffer has room for.
+const MOST_LINES: usize = 65537;
+
+// ---- what goes wrong: one line on standard error
+
+fn tell(words: &[u8]) {
+    io::write_all(STDERR_FILENO, words);
+}
+
+// What was expected of a line and of its numbers.
+fn tell_number(answer: u8) {
+    if answer == scan::WORD {
+        tell(b"expected sheet, simple, stepped or hex at the line's beginning");
+    }
+    if answer == scan::NUMBER {
+        tell(b"expected a whole number in decimal digits");
+    }
+    if answer == scan::AT_MOST_255 {
+        tell(b"expected a number of at most 255");
+    }
+    if answer == scan::AT_MOST_65535 {
+        tell(b"expected a number of at most 65535");
+    }
+    if answer == scan::AT_MOST_4294967295 {
+        tell(b"expected a number of at most 4294967295");
+    }
+    if answer == scan::TWO_DIGITS {
+        tell(b"expected two hexadecimal digits");
+    }
+}
+
+// What was expected of a time, and of how many numbers there are.
+fn tell_place(answer: u8) {
+    if answer == scan::TIME {
+        tell(b"expected a time: minutes from 1 January 00:00, or MM-DD hh:mm");
+    }
+    if answer == scan::SHEET_BEFORE {
+        tell(
+            b"expected a sheet that is in range on a line before a time as MM-DD hh:mm; minutes can be written without one",
+        );
+    }
+    if answer == scan::DAY_OF_YEAR {
+        tell(b"expected a day of the sheet's year, and a time from 00:00 to 23:59");
+    }
+    if answer == scan::GAP {
+        tell(b"expected a space, a tab, a comma, a semicolon or a bar");
+    }
+    if answer == scan::NO_MORE {
+        tell(
+            b"expected the line's end: a sheet has 4 numbers, a simple event 15, a stepped event at most 64 steps, hex at most 32 bytes",
+        );
+    }
+    if answer == scan::MORE {
+        tell(
+            b"expected more numbers: a sheet has 4, a simple event 15, a stepped event 5 and then 4 for each step, hex at least one byte",
+        );
+    }
+}
+
+// The place in the text: its name, the line and the column, each from 1.
+fn tell_where(name: &[u8], line: u64, column: u64) {
+    tell(name);
+    tell(b":");
+    io::print_decimal(STDERR_FILENO, line);
+    tell(b":");
+    io::print_decimal(STDERR_FILENO, column);
+    tell(b": ");
+}
+
+fn complain(what: &[u8], why: &[u8]) {
+    tell(b"book_write: ");
+    tell(what);
+    tell(why);
+}
+
+// ---- lines
+
+// A number more by one, in the small range that lines and columns have.
+fn next(n: u64) -> u64 {
+    if MOST_PIECES < n {
+        return n;
+    }
+    n + 1
+}
+
+// The year that times are told in, and whether the text is wrong or the book cannot be written.
+struct Told {
+    year: u16,
+    wrong: bool,
+}
+
+// One line, which is written out where that is asked.
+fn take_line(
+    name: &[u8],
+    line: u64,
+    text: &[u8],
+    year: u16,
+    writing: bool,
+    out: &mut [u8],
+) -> Told {
+    let parsed = entry::parse(text, year);
+    if parsed.answer != 0 {
+        tell_where(name, line, next(parsed.at as u64));
+        tell_number(parsed.answer);
+        tell_place(parsed.answer);
+        tell(b"\n");
+        return Told { year, wrong: true };
+    }
+    let entry = parsed.entry;
+    let n = pack::pack(out, entry);
+    let bytes = wire::part(&out[..], 0, n);
+    if writing {
+        if !io::write_all(STDOUT_FILENO, bytes) {
+            complain(b"the book", b" cannot be written\n");
+            return Told { year, wrong: true };
+        }
+    }
+    if entry.kind != shape::SHEET {
+        return Told { year, wrong: false };
+    }
+    Told {
+        year: unpack::year_after(year, bytes),
+        wrong: false,
+    }
+}
+
+// Where the line that begins at a place ends: at its newline, or where the text does.
+fn line_end(text: &[u8], start: usize) -> usize {
+    let mut end = start;
+    while end < text.len() {
+        if text[end] == 10 {
+            return end;
+        }
+        end += 1;
+    }
+    end
+}
+
+// Where the reading of a text stands: the year that times are told in, the lines read, where they end, and whether the text is wrong.
+struct Reading {
+    year: u16,
+    line: u64,
+    stop: usize,
+    wrong: bool,
+}
+
+// The whole lines of what has arrived.
+fn take_lines(name: &[u8], begun: Reading, text: &[u8], writing: bool, out: &mut [u8]) -> Reading {
+    let mut year = begun.year;
+    let mut line = begun.line;
+    let mut stop = 0;
+    let mut turns: usize = 0;
+    while turns < MOST_LINES {
+        let end = line_end(text, stop);
+        if text.len() <= end {
+            return Reading {
+                year,
+                line,
+                stop,
+                wrong: false,
+            };
+        }
+        line = next(line);
+        let told = take_line(name, line, wire::part(text, stop, end), year, writing, out);
+        year = told.year;
+        if told.wrong {
+            return Reading {
+                year,
+                line,
+                stop,
+                wrong: true,
+            };
+        }
+        stop = end + 1;
+        turns += 1;
+    }
+    Reading {
+        year,
+        line,
+        stop,
+        wrong: true,
+    }
+}
+
+// ---- the text
+
+// How many bytes of the buffer are filled, and whether the read failed.
+struct Filled {
+    count: usize,
+    failed: bool,
+}
+
+// Reads once behind the bytes held at the front of a buffer. At the end of the input there are as many as before.
+fn read_behind(fd: i32, buffer: &mut [u8], held: usize) -> Filled {
+    if buffer.len() <= held {
+        return Filled {
+            count: held,
+            failed: true,
+        };
+    }
+    let got = libc::read(fd, &mut buffer[held..]);
+    Filled {
+        count: held + io::count(got, buffer),
+        failed: got < 0,
+    }
+}
+
+// The last line, which has no newline. Whether it is wrong.
+fn take_last(name: &[u8], reading: Reading, text: &[u8], writing: bool, out: &mut [u8]) -> bool {
+    if text.len() == 0 {
+        return false;
+    }
+    let told = take_line(name, next(reading.line), text, reading.year, writing, out);
+    told.wrong
+}
+
+// Where the reading of a text stands after a piece of it: the bytes of a line that is not whole yet, whether the reading has ended, and whether the text is
+// wrong or cannot be read.
+struct Piece {
+    reading: Reading,
+    held: usize,
+    ended: bool,
+    wrong: bool,
+}
+
+fn ended(reading: Reading, wrong: bool) -> Piece {
+    Piece {
+        reading,
+        held: 0,
+        ended: true,
+        wrong,
+    }
+}
+
+// What has arrived behind the bytes held at the front of the buffer: its whole lines are taken, and the rest is held.
+fn take_arrived(
+    name: &[u8],
+    begun: Reading,
+    buffer: &mut [u8],
+    count: usize,
+    writing: bool,
+    out: &mut [u8],
+) -> Piece {
+    let reading = take_lines(name, begun, wire::part(&buffer[..], 0, count), writing, out);
+    if reading.wrong {
+        return ended(reading, true);
+    }
+    if count < reading.stop {
+        return ended(reading, true);
+    }
+    feed::move_to_front(buffer, reading.stop, count);
+    Piece {
+        reading,
+        held: count - reading.stop,
+        ended: false,
+        wrong: false,
+    }
+}
+
+// One piece more of a text.
+fn take_piece(
+    fd: i32,
+    name: &[u8],
+    reading: Reading,
+    buffer: &mut [u8],
+    held: usize,
+    writing: bool,
+    out: &mut [u8],
+) -> Piece {
+    if buffer.len() <= held {
+        tell_where(name, next(reading.line), 65536);
+        tell(b"expected a line of at most 65535 bytes\n");
+        return ended(reading, true);
+    }
+    let filled = read_behind(fd, buffer, held);
+    if filled.failed {
+        complain(name, b" cannot be read\n");
+        return ended(reading, true);
+    }
+    if filled.count == held {
+        let wrong = take_last(
+            name,
+            reading,
+            wire::part(&buffer[..], 0, held),
+            writing,
+            out,
+        );
+        return ended(reading, wrong);
+    }
+    take_arrived(name, reading, buffer, filled.count, writing, out)
+}
+
+// Reads a text to its end. Whether it is wrong or cannot be read.
+fn read_text(fd: i32, name: &[u8], buffer: &mut [u8], writing: bool, out: &mut [u8]) -> bool {
+    let mut reading = Reading {
+        year: 0,
+        line: 0,
+        stop: 0,
+        wrong: false,
+    };
+    let mut held: usize = 0;
+    let mut pieces: u64 = 0;
+    while pieces < MOST_PIECES {
+        let piece = take_piece(fd, name, reading, buffer, held, writing, out);
+        if piece.ended {
+            return piece.wrong;
+        }
+        reading = piece.reading;
+        held = piece.held;
+        pieces += 1;
+    }
+    true
+}
+
+// Opens a text and reads it. Whether it is wrong or cannot be read.
+fn read_named(name: &[u8], writing: bool) -> bool {
+    let fd = os::open_read(name);
+    if fd < 0 {
+        complain(name, b" cannot be opened\n");
+        return true;
+    }
+    let mut buffer = io::large_buffer();
+    let mut out = io::buffer();
+    let wrong = read_text(fd, name, &mut buffer, writing, &mut out);
+    libc::close(fd);
+    wrong
+}
+
+fn main() {
+    let mut name = io::buffer();
+    let n = os::arg(1, &mut name);
+    if os::errno() != 0 {
+        complain(
+            b"the name of one text",
+            b" is needed: book_write TEXT >BOOK\n",
+        );
+        return;
+    }
+    if read_named(&name[..n], false) {
+        return;
+    }
+    read_named(&name[..n], true);
+}

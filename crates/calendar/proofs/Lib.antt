@@ -1,0 +1,3 @@
+pub mod CalendarLaws
+pub mod MonthLaws
+pub mod OneOutcome

@@ -1,0 +1,140 @@
+-- At each turn the outcome is that of the items read so far and of what is left of the line, with as many turns as there are places left. The place in the line
+-- stays below 2 ^ 64, as an item lies within what is left. Assumes nothing.
+use Prim.Native.Nat.{ℕ, suc, _+_, _-_, _<_, _≤_}
+use mathlib.Core.Path.{_≡_, sym, ap, _∙_}
+use mathlib.Core.List.{List}
+use lib.ListN.{drop}
+use native.Mathlib.Omega.{arith}
+use borrow.Author.Needs.{needs}
+use borrow.Author.Tests.{ne-eqb, eq-eqb}
+use Rattle.entry.specs.Entry.{nextField, endedBy, gathered}
+use Rattle.entry.proofs.EntryLaws.{part-is-rest, goingOn, going-starts, going-on, going-ends, going-last, going-short}
+use Rattle.entry.proofs.gather.Statement.{statement}
+use Rattle.entry.proofs.gather.Tie as tie
+
+abbrev Inv-loop : tie.InvT-loop
+Inv-loop line start kind year values₀ at₀ k₀ values at k = (k ≤ 261) × (at < 18446744073709551616) × (gathered line start kind year ≡ goingOn (261 - k) line at kind k year values)
+
+abbrev μ-loop : tie.MeasureT-loop
+μ-loop line start kind year values₀ at₀ k₀ values at k = 261 - k
+
+-- what `next_field` answers, of the line itself
+field :
+    (c : tie.After-next-field Inv-loop μ-loop) →
+    c .next-field .result ≡ nextField (drop (c .before .before .before .loop .at) (c .before .before .before .before .before .args .line .now)) (c .before .before .before .before .before .args .kind) (c .before .before .before .loop .k) (c .before .before .before .before .before .args .year)
+field c =
+    let a = c .before .before .before .before .before .args in
+    let l = c .before .before .before .loop in
+    c .next-field .ensures ∙ ap (λ (s : List ℕ). nextField s (a .kind) (l .k) (a .year)) (c .before .part .ensures ∙ part-is-rest (a .line .now) (l .at))
+
+last-field :
+    (c : tie.After-next-field2 Inv-loop μ-loop) →
+    c .next-field2 .result ≡ nextField (drop (c .before .before .before .loop .at) (c .before .before .before .before .before .args .line .now)) (c .before .before .before .before .before .args .kind) (c .before .before .before .loop .k) (c .before .before .before .before .before .args .year)
+last-field c =
+    let a = c .before .before .before .before .before .args in
+    let l = c .before .before .before .loop in
+    c .next-field2 .ensures ∙ ap (λ (s : List ℕ). nextField s (a .kind) (l .k) (a .year)) (c .before .part2 .ensures ∙ part-is-rest (a .line .now) (l .at))
+
+loop-holds : tie.Need-loop-holds Inv-loop μ-loop
+loop-holds c =
+    let a = c .before .args in
+    (search needs, search needs, going-starts (a .line .now) (a .start) (a .kind) (a .year))
+
+part-requires : tie.Need-part-requires Inv-loop μ-loop
+part-requires c κs = search needs
+
+next-field-requires : tie.Need-next-field-requires Inv-loop μ-loop
+next-field-requires c κs = search needs
+
+add-at : tie.Need-add-at Inv-loop μ-loop
+add-at c =
+    let a = c .before .before .before .before .before .before .args in
+    let l = c .before .before .before .before .loop in
+    omega (arith, going-short (a .line .now) (l .at) (a .kind) (l .k) (a .year) (l .values) (c .before .next-field .result) (field (c .before)), l .inv .1)
+
+ended-requires : tie.Need-ended-requires Inv-loop μ-loop
+ended-requires c κs = search needs
+
+returns : tie.Need-returns Inv-loop μ-loop
+returns c =
+    let a = c .before .before .before .before .before .before .before .before .before .args in
+    let l = c .before .before .before .before .before .before .before .loop in
+    let f = c .before .before .before .before .next-field .result in
+    let fuel : 261 - l .k ≡ suc (261 - (l .k + 1)) = omega (arith, c .before .before .before .before .before .before .loop-test .taken) in
+    _∙_ {b = endedBy (f .answer) (l .at + f .used) (a .kind) (l .k) (l .values)} (c .ended .ensures)
+    (sym
+    (l .inv .2 ∙ ap (λ (n : ℕ). goingOn n (a .line .now) (l .at) (a .kind) (l .k) (a .year) (l .values)) fuel ∙
+    going-ends (a .line .now) (l .at) (a .kind) (l .k) (a .year) (l .values) f (field (c .before .before .before .before)) (261 - (l .k + 1)) (ne-eqb (f .answer) 0 (c .before .if1 .taken))))
+
+mul-values : tie.Need-mul-values Inv-loop μ-loop
+mul-values c = search needs
+
+array-write-values : tie.Need-array-write-values Inv-loop μ-loop
+array-write-values c = search needs
+
+add-k : tie.Need-add-k Inv-loop μ-loop
+add-k c = search needs
+
+loop-less : tie.Need-loop-less Inv-loop μ-loop
+loop-less c = search needs
+
+loop-again : tie.Need-loop-again Inv-loop μ-loop
+loop-again c =
+    let a = c .before .before .before .before .before .before .before .before .args in
+    let l = c .before .before .before .before .before .before .loop in
+    let f = c .before .before .before .next-field .result in
+    let fuel : 261 - l .k ≡ suc (261 - (l .k + 1)) = omega (arith, c .before .before .before .before .before .loop-test .taken) in (
+      search needs,
+      omega (arith, going-short (a .line .now) (l .at) (a .kind) (l .k) (a .year) (l .values) f (field (c .before .before .before)), l .inv .1),
+      l .inv .2 ∙ ap (λ (n : ℕ). goingOn n (a .line .now) (l .at) (a .kind) (l .k) (a .year) (l .values)) fuel ∙
+          going-on (a .line .now) (l .at) (a .kind) (l .k) (a .year) (l .values) f (field (c .before .before .before)) (261 - (l .k + 1)) (eq-eqb (f .answer) 0 (c .if1 .left)),
+    )
+
+part-requires-2 : tie.Need-part-requires-2 Inv-loop μ-loop
+part-requires-2 c κs = search needs
+
+next-field-requires-2 : tie.Need-next-field-requires-2 Inv-loop μ-loop
+next-field-requires-2 c κs = search needs
+
+add-ended : tie.Need-add-ended Inv-loop μ-loop
+add-ended c =
+    let a = c .before .before .before .before .before .before .args in
+    let l = c .before .before .before .before .loop in
+    omega (arith, going-short (a .line .now) (l .at) (a .kind) (l .k) (a .year) (l .values) (c .before .next-field2 .result) (last-field (c .before)), l .inv .1)
+
+ended-requires-2 : tie.Need-ended-requires-2 Inv-loop μ-loop
+ended-requires-2 c κs = search needs
+
+returns-2 : tie.Need-returns-2 Inv-loop μ-loop
+returns-2 c =
+    let a = c .before .before .before .before .before .before .before .args in
+    let l = c .before .before .before .before .before .loop in
+    let f = c .before .before .next-field2 .result in
+    let fuel : 261 - l .k ≡ 0 = omega (arith, c .before .before .before .before .loop-test .left) in
+    _∙_ {b = endedBy (f .answer) (l .at + f .used) (a .kind) (l .k) (l .values)} (c .ended2 .ensures)
+    (sym
+    (l .inv .2 ∙ ap (λ (n : ℕ). goingOn n (a .line .now) (l .at) (a .kind) (l .k) (a .year) (l .values)) fuel ∙
+    going-last (a .line .now) (l .at) (a .kind) (l .k) (a .year) (l .values) f (last-field (c .before .before))))
+
+pub gather-spec : {M : Type 1} → statement M
+gather-spec =
+    tie.close
+    (tie.spec
+    Inv-loop
+    μ-loop
+    loop-holds
+    part-requires
+    next-field-requires
+    add-at
+    ended-requires
+    returns
+    mul-values
+    array-write-values
+    add-k
+    loop-less
+    loop-again
+    part-requires-2
+    next-field-requires-2
+    add-ended
+    ended-requires-2
+    returns-2)

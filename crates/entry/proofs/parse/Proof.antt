@@ -1,0 +1,88 @@
+-- The tests are those of `parsedOf`, in the same order, at the front of the line past its gaps. Assumes nothing.
+use Prim.Native.Nat.{ℕ, _+_}
+use mathlib.Core.Path.{_≡_, sym, ap, _∙_}
+use mathlib.Core.Bool.{true, false}
+use lib.Dec.{eqb}
+use lib.ListN.{drop}
+use native.Mathlib.Omega.{arith}
+use borrow.Author.Needs.{needs}
+use borrow.Author.Tests.{ne-eqb, eq-eqb}
+use Rattle.scan.specs.Scan.{gapsIn, endsHere}
+use Rattle.scan.proofs.ScanLaws.{gaps-short}
+use Rattle.entry.specs.declared.Word.{Word}
+use Rattle.entry.specs.Entry.{wordOf, refusedAt, gathered}
+use Rattle.entry.proofs.EntryLaws.{part-is-rest, word-short, blankAt, parse-blank, parse-wordless, parse-gathers}
+use Rattle.entry.proofs.parse.Statement.{statement}
+use Rattle.entry.proofs.parse.Tie as tie
+
+-- what the called functions answer, of the line itself
+rest : (c : tie.After-part) → c .part .result .now ≡ drop (gapsIn (c .before .before .before .args .line .now)) (c .before .before .before .args .line .now)
+rest c =
+    let s = c .before .before .before .args .line .now in
+    c .part .ensures ∙ part-is-rest s (c .before .gaps-in .result) ∙ ap (λ (n : ℕ). drop n s) (c .before .gaps-in .ensures)
+
+ends : (c : tie.After-ends-here) → c .ends-here .result ≡ endsHere (drop (gapsIn (c .before .before .before .before .args .line .now)) (c .before .before .before .before .args .line .now))
+ends c = c .ends-here .ensures ∙ ap endsHere (rest (c .before))
+
+goes : (c : tie.Else1) → endsHere (drop (gapsIn (c .before .before .before .before .before .args .line .now)) (c .before .before .before .before .before .args .line .now)) ≡ false
+goes c = sym (ends (c .before)) ∙ c .if1 .left
+
+word : (c : tie.After-word-of) → c .word-of .result ≡ wordOf (drop (gapsIn (c .before .before .before .before .before .before .args .line .now)) (c .before .before .before .before .before .before .args .line .now))
+word c = c .word-of .ensures ∙ ap wordOf (rest (c .before .before .before))
+
+gaps-in-requires : tie.Need-gaps-in-requires
+gaps-in-requires c κs = search needs
+
+part-requires : tie.Need-part-requires
+part-requires c κs = search needs
+
+ends-here-requires : tie.Need-ends-here-requires
+ends-here-requires c κs = search needs
+
+returns : tie.Need-returns
+returns c =
+    let a = c .before .before .before .before .before .args in
+    ap blankAt (c .before .before .before .gaps-in .ensures) ∙ sym (parse-blank (a .line .now) (a .year) (sym (ends (c .before)) ∙ c .if1 .taken))
+
+word-of-requires : tie.Need-word-of-requires
+word-of-requires c κs = search needs
+
+returns-2 : tie.Need-returns-2
+returns-2 c =
+    let a = c .before .before .before .before .before .before .before .before .args in
+    let none : eqb (wordOf (drop (gapsIn (a .line .now)) (a .line .now)) .kind) 0 ≡ true =
+    sym (ap (λ (w : Word). eqb (w .kind) 0) (word (c .before .before))) ∙ eq-eqb (c .before .before .word-of .result .kind) 0 (c .if2 .taken) in
+    ap (refusedAt 1) (c .before .before .before .before .before .before .gaps-in .ensures) ∙ sym (parse-wordless (a .line .now) (a .year) (goes (c .before .before .before)) none)
+
+add-gather : tie.Need-add-gather
+add-gather c =
+    let a = c .before .before .before .before .before .before .before .before .before .args in
+    let w : c .before .before .before .word-of .result .used ≡ wordOf (drop (gapsIn (a .line .now)) (a .line .now)) .used = ap (λ (r : Word). r .used) (word (c .before .before .before)) in
+    let g : c .before .before .before .before .before .before .before .gaps-in .result ≡ gapsIn (a .line .now) = c .before .before .before .before .before .before .before .gaps-in .ensures in
+    omega (arith, gaps-short (a .line .now), word-short (drop (gapsIn (a .line .now)) (a .line .now)))
+
+gather-requires : tie.Need-gather-requires
+gather-requires c κs = search needs
+
+returns-3 : tie.Need-returns-3
+returns-3 c =
+    let a = c .before .before .before .before .before .before .before .before .before .before .args in
+    let w = word (c .before .before .before .before) in
+    let g = c .before .before .before .before .before .before .before .before .gaps-in .ensures in
+    let there : eqb (wordOf (drop (gapsIn (a .line .now)) (a .line .now)) .kind) 0 ≡ false =
+    sym (ap (λ (r : Word). eqb (r .kind) 0) w) ∙ ne-eqb (c .before .before .before .before .word-of .result .kind) 0 (c .before .before .if2 .left) in
+    c .gather .ensures ∙ (λ i. gathered (a .line .now) (g i + w i .used) (w i .kind) (a .year)) ∙ sym (parse-gathers (a .line .now) (a .year) (goes (c .before .before .before .before .before)) there)
+
+pub parse-spec : {M : Type 1} → statement M
+parse-spec =
+    tie.close
+    (tie.spec
+    gaps-in-requires
+    part-requires
+    ends-here-requires
+    returns
+    word-of-requires
+    returns-2
+    add-gather
+    gather-requires
+    returns-3)

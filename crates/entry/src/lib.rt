@@ -1,0 +1,212 @@
+// A line of text read as an entry: its word, then its items, each parted from the next.
+ghost use mathlib.Core.Path.{_≡_};
+ghost use Rattle.entry.specs.Entry.{beginsWith, wordOf, nextField, gathered, parsedOf};
+use scan::Found;
+use shape::Entry;
+
+// The sort of line that a word names, and how long the word is; no sort and 0 where it is none.
+pub struct Word {
+    pub kind: u8,
+    pub used: usize,
+}
+
+// 0 and an entry, which is blank where the line has nothing but gaps and a comment; or what was expected, and at which byte of the line, from 0. Then the
+// entry is blank.
+pub struct Parsed {
+    pub answer: u8,
+    pub at: usize,
+    pub entry: Entry,
+}
+
+// Whether a line begins with a word.
+fn begins_with(s: &[u8], word: &[u8]) -> bool
+    ensures { λ r. ⌜ r ≡ beginsWith (now (s .entry)) (now (word .entry)) ⌝ }
+{
+    if s.len() < word.len() {
+        return false;
+    }
+    let mut i = 0;
+    while i < word.len() {
+        if s[i] != word[i] {
+            return false;
+        }
+        i += 1;
+    }
+    true
+}
+
+// Whether a word stands in front, parted from what follows.
+fn is_word(s: &[u8], word: &[u8]) -> bool
+    ensures { λ r. ⌜ r ≡ Rattle.entry.specs.Entry.isWord (now (s .entry)) (now (word .entry)) ⌝ }
+{
+    if !begins_with(s, word) {
+        return false;
+    }
+    scan::parted_here(wire::part(s, word.len(), s.len()))
+}
+
+// The word in front.
+pub fn word_of(s: &[u8]) -> Word
+    ensures { λ r. ⌜ r ≡ wordOf (now (s .entry)) ⌝ }
+{
+    if is_word(s, b"sheet") {
+        return Word {
+            kind: shape::SHEET,
+            used: 5,
+        };
+    }
+    if is_word(s, b"simple") {
+        return Word {
+            kind: shape::SIMPLE,
+            used: 6,
+        };
+    }
+    if is_word(s, b"stepped") {
+        return Word {
+            kind: shape::STEPPED,
+            used: 7,
+        };
+    }
+    if is_word(s, b"hex") {
+        return Word {
+            kind: shape::HEX,
+            used: 3,
+        };
+    }
+    Word {
+        kind: shape::BLANK,
+        used: 0,
+    }
+}
+
+// The k-th item of a line of a sort, past the gaps in front.
+pub fn next_field(s: &[u8], kind: u8, k: usize, year: u16) -> Found
+    ensures { λ r. ⌜ r ≡ nextField (now (s .entry)) kind k year ⌝ }
+{
+    let skipped = scan::gaps_in(s);
+    let body = wire::part(s, skipped, s.len());
+    if scan::ends_here(body) {
+        return Found {
+            answer: scan::END,
+            value: 0,
+            used: skipped,
+        };
+    }
+    if shape::most_of(kind) <= k {
+        return Found {
+            answer: scan::NO_MORE,
+            value: 0,
+            used: skipped,
+        };
+    }
+    let f = scan::item_found(body, shape::item_of(kind, k), year);
+    if f.answer != 0 {
+        return Found {
+            answer: f.answer,
+            value: 0,
+            used: skipped,
+        };
+    }
+    let past = skipped + f.used;
+    if !scan::parted_here(wire::part(s, past, s.len())) {
+        return Found {
+            answer: scan::GAP,
+            value: 0,
+            used: past,
+        };
+    }
+    Found {
+        answer: 0,
+        value: f.value,
+        used: past,
+    }
+}
+
+// The outcome once the items have been read: as many as the line needs, or what was expected instead.
+fn ended(answer: u8, at: usize, kind: u8, count: usize, values: [u32; 261]) -> Parsed
+    ensures { λ r. ⌜ r ≡ Rattle.entry.specs.Entry.endedBy answer at kind count values ⌝ }
+{
+    if answer != scan::END {
+        return Parsed {
+            answer,
+            at,
+            entry: Entry {
+                kind: shape::BLANK,
+                count: 0,
+                values: [0; 261],
+            },
+        };
+    }
+    if !shape::is_whole(kind, count) {
+        return Parsed {
+            answer: scan::MORE,
+            at,
+            entry: Entry {
+                kind: shape::BLANK,
+                count: 0,
+                values: [0; 261],
+            },
+        };
+    }
+    Parsed {
+        answer: 0,
+        at,
+        entry: Entry {
+            kind,
+            count,
+            values,
+        },
+    }
+}
+
+// The items of a line of a sort, from a place on.
+fn gather(line: &[u8], start: usize, kind: u8, year: u16) -> Parsed
+    ensures { λ r. ⌜ r ≡ gathered (now (line .entry)) start kind year ⌝ }
+{
+    let mut values = [0u32; 261];
+    let mut at = start;
+    let mut k: usize = 0;
+    while k < 261 {
+        let f = next_field(wire::part(line, at, line.len()), kind, k, year);
+        at += f.used;
+        if f.answer != 0 {
+            return ended(f.answer, at, kind, k, values);
+        }
+        values[k] = f.value;
+        k += 1;
+    }
+    let f = next_field(wire::part(line, at, line.len()), kind, k, year);
+    ended(f.answer, at + f.used, kind, k, values)
+}
+
+// A line, without its newline. The year is that of the sheet before it, 0 where there is none.
+pub fn parse(line: &[u8], year: u16) -> Parsed
+    ensures { λ r. ⌜ r ≡ parsedOf (now (line .entry)) year ⌝ }
+{
+    let skipped = scan::gaps_in(line);
+    let rest = wire::part(line, skipped, line.len());
+    if scan::ends_here(rest) {
+        return Parsed {
+            answer: 0,
+            at: skipped,
+            entry: Entry {
+                kind: shape::BLANK,
+                count: 0,
+                values: [0; 261],
+            },
+        };
+    }
+    let word = word_of(rest);
+    if word.kind == shape::BLANK {
+        return Parsed {
+            answer: scan::WORD,
+            at: skipped,
+            entry: Entry {
+                kind: shape::BLANK,
+                count: 0,
+                values: [0; 261],
+            },
+        };
+    }
+    gather(line, skipped + word.used, word.kind, year)
+}

@@ -1,0 +1,26 @@
+-- The word, then the items after it. Assumes nothing.
+use mathlib.Core.Path.{sym, ap, _∙_}
+use Rattle.pen.specs.Pen.{Spot, spot, pushedAll}
+use Rattle.pen.proofs.PenLaws.{pushed-all-append}
+use Rattle.entry.specs.Entry.{wordText}
+use Rattle.line.specs.Line.{entryItems}
+use borrow.Author.Needs.{needs}
+use Rattle.line.proofs.write_line.Statement.{statement}
+use Rattle.line.proofs.write_line.Tie as tie
+
+put-word-requires : tie.Need-put-word-requires
+put-word-requires c κs = search needs
+
+put-items-requires : tie.Need-put-items-requires
+put-items-requires c κs = search needs
+
+same-length : tie.Need-same-length
+same-length c = search needs
+
+returns : tie.Need-returns
+returns c =
+    let a = c .before .before .before .before .before .before .before .before .before .args in
+    c .before .before .put-items .ensures ∙ ap (λ (s : Spot). pushedAll s (entryItems (a .entry) (a .year))) (c .before .before .before .before .before .before .put-word .ensures) ∙ sym (pushed-all-append (spot (a .out .now) 0) (wordText (a .entry .kind)) (entryItems (a .entry) (a .year)))
+
+pub write-line-spec : {M : Type 1} → statement M
+write-line-spec = tie.close (tie.spec put-word-requires put-items-requires same-length returns)

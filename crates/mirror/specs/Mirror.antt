@@ -1,0 +1,16 @@
+-- "book_write of book_read's text gives the same bytes for every input": what a line of text stands for, as bytes.
+use Prim.Native.Nat.{ℕ, _<_}
+use mathlib.Core.List.{List, [], _∷_}
+use mathlib.Core.Bool.{cond}
+use lib.Dec.{eqb}
+use Rattle.base.specs.Lists.{All}
+use Rattle.entry.specs.Entry.{parsedOf}
+use Rattle.pack.specs.Pack.{packedOf}
+
+-- the bytes of a line, under the year of the sheet before it; none of a line that is refused
+abbrev pub lineBytes : List ℕ → ℕ → List ℕ
+lineBytes line year = cond (eqb (parsedOf line year .answer) 0) (packedOf (parsedOf line year .entry)) []
+
+-- numbers that are bytes
+abbrev pub Bytes : List ℕ → Type 0
+Bytes s = All (λ (b : ℕ). b < 256) s

@@ -1,0 +1,1 @@
+// A book's text read back: definitions and their theorems. There is no code here.

@@ -1,0 +1,58 @@
+-- The tests are those of the definition, in the same order. Assumes nothing.
+use Prim.Native.Nat.{_+_}
+use mathlib.Core.Path.{_≡_, sym, ap, _∙_}
+use mathlib.Core.Bool.{true, false}
+use borrow.Author.Needs.{needs}
+use borrow.Author.Tests.{lt-ltb, not-true, not-false}
+use Rattle.wire.specs.Numbers.{byteAt}
+use Rattle.scan.specs.Scan.{isDigit, twoStand}
+use Rattle.scan.proofs.ScanLaws.{none-far}
+use Rattle.scan.proofs.two_stand.Statement.{statement}
+use Rattle.scan.proofs.two_stand.Tie as tie
+
+returns : tie.Need-returns
+returns c = sym (none-far (c .before .before .args .s .now) (c .before .before .args .at) (c .if1 .taken))
+
+byte-at-requires : tie.Need-byte-at-requires
+byte-at-requires c κs = search needs
+
+is-digit-requires : tie.Need-is-digit-requires
+is-digit-requires c κs = search needs
+
+returns-2 : tie.Need-returns-2
+unfolding twoStand
+returns-2 c =
+    let a = c .before .before .before .before .before .args in
+    let digit = c .before .is-digit in
+    let none : isDigit (byteAt (a .s .now) (a .at)) ≡ false = ap isDigit (sym (c .before .before .byte-at .ensures)) ∙ sym (digit .ensures) ∙ not-true (digit .result) (c .if2 .taken) in
+    rw (twoStand, lt-ltb (a .at) 16 (c .before .before .before .if1 .left), none)
+
+add-byte-at : tie.Need-add-byte-at
+add-byte-at c = search needs
+
+byte-at-requires-2 : tie.Need-byte-at-requires-2
+byte-at-requires-2 c κs = search needs
+
+is-digit-requires-2 : tie.Need-is-digit-requires-2
+is-digit-requires-2 c κs = search needs
+
+returns-3 : tie.Need-returns-3
+unfolding twoStand
+returns-3 c =
+    let a = c .before .before .before .before .before .before .before .args in
+    let digit = c .before .before .before .is-digit in
+    let first : isDigit (byteAt (a .s .now) (a .at)) ≡ true = ap isDigit (sym (c .before .before .before .before .byte-at .ensures)) ∙ sym (digit .ensures) ∙ not-false (digit .result) (c .before .before .if2 .left) in
+    rw (twoStand, lt-ltb (a .at) 16 (c .before .before .before .before .before .if1 .left), first) (c .is-digit2 .ensures ∙ ap isDigit (c .before .byte-at2 .ensures))
+
+pub two-stand-spec : {M : Type 1} → statement M
+two-stand-spec =
+    tie.close
+    (tie.spec
+    returns
+    byte-at-requires
+    is-digit-requires
+    returns-2
+    add-byte-at
+    byte-at-requires-2
+    is-digit-requires-2
+    returns-3)

@@ -1,0 +1,3 @@
+pub mod UnpackLaws
+pub mod BytesLaws
+pub mod OneOutcome
