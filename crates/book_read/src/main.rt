@@ -46,7 +46,8 @@ fn say_refused_form(answer: u8) {
     }
 }
 
-// The refusals by times, counts and numbers.
+// The refusals by times, counts and numbers. No other number is answered to a record of a book that is read from its beginning: map and ledger are sound,
+// 8, 9 and 16 are the desk's, and a ledger that is full (15) has every number marked (14).
 fn say_refused_event(answer: u8) {
     if answer == 10 {
         say(
@@ -64,9 +65,6 @@ fn say_refused_event(answer: u8) {
     }
     if answer == 14 {
         say(b"# refused, 14: an event with this number is in the book already\n");
-    }
-    if answer == 15 {
-        say(b"# refused, 15: the book has 65,535 events already, and no more can be counted\n");
     }
 }
 
