@@ -17,7 +17,7 @@ pub struct Minute {
 }
 
 // The days of a month of a year from 2000 to 2099, from 1 for January; past December none.
-pub fn days_in(year: u16, month: u32) -> u32
+fn days_in(year: u16, month: u32) -> u32
     ensures { λ r. ⌜ r ≡ daysIn year month ⌝ }
 {
     if month == 2 {

@@ -46,7 +46,7 @@ fn is_word(s: &[u8], word: &[u8]) -> bool
 }
 
 // The word in front.
-pub fn word_of(s: &[u8]) -> Word
+fn word_of(s: &[u8]) -> Word
     ensures { λ r. ⌜ r ≡ wordOf (now (s .entry)) ⌝ }
 {
     if is_word(s, b"sheet") {
@@ -80,7 +80,7 @@ pub fn word_of(s: &[u8]) -> Word
 }
 
 // The k-th item of a line of a sort, past the gaps in front.
-pub fn next_field(s: &[u8], kind: u8, k: usize, year: u16) -> Found
+fn next_field(s: &[u8], kind: u8, k: usize, year: u16) -> Found
     ensures { λ r. ⌜ r ≡ nextField (now (s .entry)) kind k year ⌝ }
 {
     let skipped = scan::gaps_in(s);

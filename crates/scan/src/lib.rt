@@ -46,7 +46,7 @@ pub struct Run {
 }
 
 // Whether a byte parts items: a space, a tab, a comma, a semicolon, a bar or a carriage return.
-pub fn is_gap(b: u8) -> bool
+fn is_gap(b: u8) -> bool
     ensures { λ r. ⌜ r ≡ isGap b ⌝ }
 {
     if b == 32 {
@@ -124,7 +124,7 @@ fn grown(value: u64, b: u8) -> u64
 }
 
 // The decimal digits in front.
-pub fn run_of(s: &[u8]) -> Run
+fn run_of(s: &[u8]) -> Run
     ensures { λ r. ⌜ r ≡ runOf (now (s .entry)) ⌝ }
 {
     let mut value: u64 = 0;
@@ -141,7 +141,7 @@ pub fn run_of(s: &[u8]) -> Run
 }
 
 // A number of at most so much; `none` is answered where no digit stands, and `large` where it is larger.
-pub fn number_found(s: &[u8], most: u32, none: u8, large: u8) -> Found
+fn number_found(s: &[u8], most: u32, none: u8, large: u8) -> Found
     ensures { λ r. ⌜ r ≡ numberFound (now (s .entry)) most none large ⌝ }
 {
     let run = run_of(s);
@@ -228,7 +228,7 @@ fn date_stands(s: &[u8]) -> bool
 }
 
 // A time as MM-DD hh:mm within a year; the year is 0 where none is known.
-pub fn date_found(s: &[u8], year: u16) -> Found
+fn date_found(s: &[u8], year: u16) -> Found
     ensures { λ r. ⌜ r ≡ dateFound (now (s .entry)) year ⌝ }
 {
     if !date_stands(s) {
@@ -269,7 +269,7 @@ pub fn date_found(s: &[u8], year: u16) -> Found
 }
 
 // A time: minutes, or a date where a dash stands after two bytes.
-pub fn time_found(s: &[u8], year: u16) -> Found
+fn time_found(s: &[u8], year: u16) -> Found
     ensures { λ r. ⌜ r ≡ timeFound (now (s .entry)) year ⌝ }
 {
     if wire::byte_at(s, 2) == 45 {
@@ -304,7 +304,7 @@ fn hex_value(b: u8) -> u8
 }
 
 // A byte in two hexadecimal digits.
-pub fn hex_found(s: &[u8]) -> Found
+fn hex_found(s: &[u8]) -> Found
     ensures { λ r. ⌜ r ≡ hexFound (now (s .entry)) ⌝ }
 {
     let high = hex_value(wire::byte_at(s, 0));

@@ -4,7 +4,7 @@ ghost use Rattle.unpack.specs.Unpack.{kindIn, countIn, valueIn, unpacked
 use shape::Entry;
 
 // The sort of line that stands for some bytes: a record whose length is its own and right for its kind. No sort for any other bytes.
-pub fn kind_in(s: &[u8]) -> u8
+fn kind_in(s: &[u8]) -> u8
     ensures { λ r. ⌜ r ≡ kindIn (now (s .entry)) ⌝ }
 {
     if !wire::is_framed(s) {
