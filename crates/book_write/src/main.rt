@@ -298,8 +298,22 @@ fn take_piece(
     take_arrived(name, reading, buffer, filled.count, writing, out)
 }
 
-// Reads a text to its end. Whether it is wrong or cannot be read.
-fn read_text(fd: i32, name: &[u8], buffer: &mut [u8], writing: bool, out: &mut [u8]) -> bool {
+// Two numbers added, the second in the small range that a piece has.
+fn plus(n: u64, piece: usize) -> u64 {
+    if 9223372036854775807 < n {
+        return n;
+    }
+    n + (piece % 1048576) as u64
+}
+
+// What the reading of a text came to: whether it is wrong or cannot be read, and a number that tells a longer text from a shorter one.
+struct Outcome {
+    wrong: bool,
+    size: u64,
+}
+
+// Reads a text to its end.
+fn read_text(fd: i32, name: &[u8], buffer: &mut [u8], writing: bool, out: &mut [u8]) -> Outcome {
     let mut reading = Reading {
         year: 0,
         line: 0,
@@ -307,31 +321,39 @@ fn read_text(fd: i32, name: &[u8], buffer: &mut [u8], writing: bool, out: &mut [
         wrong: false,
     };
     let mut held: usize = 0;
+    let mut size: u64 = 0;
     let mut pieces: u64 = 0;
     while pieces < MOST_PIECES {
         let piece = take_piece(fd, name, reading, buffer, held, writing, out);
         if piece.ended {
-            return piece.wrong;
+            return Outcome {
+                wrong: piece.wrong,
+                size: plus(size, held),
+            };
         }
         reading = piece.reading;
+        size = plus(size, reading.stop);
         held = piece.held;
         pieces += 1;
     }
-    true
+    Outcome { wrong: true, size }
 }
 
-// Opens a text and reads it. Whether it is wrong or cannot be read.
-fn read_named(name: &[u8], writing: bool) -> bool {
+// Opens a text and reads it.
+fn read_named(name: &[u8], writing: bool) -> Outcome {
     let fd = os::open_read(name);
     if fd < 0 {
         complain(name, b" cannot be opened\n");
-        return true;
+        return Outcome {
+            wrong: true,
+            size: 0,
+        };
     }
     let mut buffer = io::large_buffer();
     let mut out = io::buffer();
-    let wrong = read_text(fd, name, &mut buffer, writing, &mut out);
+    let outcome = read_text(fd, name, &mut buffer, writing, &mut out);
     libc::close(fd);
-    wrong
+    outcome
 }
 
 fn main() {
@@ -344,8 +366,18 @@ fn main() {
         );
         return;
     }
-    if read_named(&name[..n], false) {
+    let first = read_named(&name[..n], false);
+    if first.wrong {
         return;
     }
-    read_named(&name[..n], true);
+    let second = read_named(&name[..n], true);
+    if second.wrong {
+        return;
+    }
+    if first.size != second.size {
+        complain(
+            &name[..n],
+            b" was not the same when it was read again: it must be a file that nobody changes\n",
+        );
+    }
 }

@@ -7,16 +7,19 @@ use Rattle.book_write.proofs.read_text.Statement.{statement}
 use Rattle.book_write.proofs.read_text.Tie as tie
 
 abbrev Inv-loop : tie.InvT-loop
-Inv-loop fd name buffer₀ writing out₀ reading₀ held₀ pieces₀ buffer out reading held pieces = (length buffer ≡ length buffer₀) × (length out ≡ length out₀)
+Inv-loop fd name buffer₀ writing out₀ reading₀ held₀ size₀ pieces₀ buffer out reading held size pieces = (length buffer ≡ length buffer₀) × (length out ≡ length out₀)
 
 abbrev μ-loop : tie.MeasureT-loop
-μ-loop fd name buffer₀ writing out₀ reading₀ held₀ pieces₀ buffer out reading held pieces = 1099511627776 - pieces
+μ-loop fd name buffer₀ writing out₀ reading₀ held₀ size₀ pieces₀ buffer out reading held size pieces = 1099511627776 - pieces
 
 loop-holds : tie.Need-loop-holds Inv-loop μ-loop
 loop-holds c = search needs
 
 take-piece-requires : tie.Need-take-piece-requires Inv-loop μ-loop
 take-piece-requires c κs = search needs
+
+plus-requires : tie.Need-plus-requires Inv-loop μ-loop
+plus-requires c κs = search needs
 
 same-length : tie.Need-same-length Inv-loop μ-loop
 same-length c = search needs
@@ -26,6 +29,9 @@ same-length-2 c = search needs
 
 returns : tie.Need-returns Inv-loop μ-loop
 returns c = search needs
+
+plus-requires-2 : tie.Need-plus-requires-2 Inv-loop μ-loop
+plus-requires-2 c κs = search needs
 
 add-pieces : tie.Need-add-pieces Inv-loop μ-loop
 add-pieces c = search needs
@@ -53,9 +59,11 @@ read-text-spec =
     μ-loop
     loop-holds
     take-piece-requires
+    plus-requires
     same-length
     same-length-2
     returns
+    plus-requires-2
     add-pieces
     loop-less
     loop-again
