@@ -42,7 +42,7 @@ loop-again c =
     let l = c .before .before .before .loop in
     let within = c .before .before .loop-test .taken in
     let room = c .before .if1 .left in
-    (ap (λ (vs : List ℕ). set vs (l .k) (getD s (l .k) 0)) (l .inv .0) ∙ one-more s (l .k) within room, omega (arith, room), omega (arith, within))
+    (ap (λ (vs : List ℕ). set vs (l .k) (getD s (l .k) 0)) (l .inv .0) ∙ one-more s (l .k) within (omega (arith, room)), omega (arith, room), omega (arith, within))
 
 returns : tie.Need-returns Inv-loop μ-loop
 returns c =
