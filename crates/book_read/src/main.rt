@@ -11,155 +11,247 @@ const MOST_PIECES: u64 = 1099511627776;
 // More records than the buffer has room for.
 const MOST_RECORDS: usize = 65536;
 
-// ---- what is said of a record, in a comment above it
+// The bytes that wait before they are written out. A comment has at most 129 bytes and a line less than 4,096, so that the buffer has room for one more.
+const MOST_WAITING: usize = 61440;
 
-fn say(words: &[u8]) {
-    io::write_all(STDOUT_FILENO, words);
+// ---- the page: what is said waits in a buffer
+
+// The place of the next byte, and whether some could not be written.
+struct Page {
+    at: usize,
+    lost: bool,
 }
 
+fn write_out(out: &[u8], page: Page) -> Page {
+    let written = io::write_all(STDOUT_FILENO, wire::part(out, 0, page.at));
+    Page {
+        at: 0,
+        lost: page.lost | !written,
+    }
+}
+
+// The page with room for a comment or a line.
+fn with_room(out: &[u8], page: Page) -> Page {
+    if page.at < MOST_WAITING {
+        return page;
+    }
+    write_out(out, page)
+}
+
+fn say(out: &mut [u8], page: Page, words: &[u8]) -> Page {
+    let begun = with_room(&out[..], page);
+    let at = pen::put_words(out, begun.at, words);
+    Page {
+        at,
+        lost: begun.lost,
+    }
+}
+
+// ---- what is said of a record, in a comment above it
+
 // The refusals by bytes, by sheet and by codes.
-fn say_refused_form(answer: u8) {
+fn say_refused_form(out: &mut [u8], page: Page, answer: u8) -> Page {
     if answer == 3 {
-        say(
+        return say(
+            out,
+            page,
             b"# refused, 3: a book takes year sheets, simple events and stepped events, and this is none of them\n",
         );
     }
     if answer == 4 {
-        say(
+        return say(
+            out,
+            page,
             b"# refused, 4: the length is wrong for this kind of record, or it does not have 1 to 64 steps\n",
         );
     }
     if answer == 5 {
-        say(
+        return say(
+            out,
+            page,
             b"# refused, 5: an event needs a year sheet before it, and a book takes one sheet only\n",
         );
     }
     if answer == 6 {
-        say(
+        return say(
+            out,
+            page,
             b"# refused, 6: the year is not 2000 to 2099, or a level has more than 10,000,000 customers\n",
         );
     }
     if answer == 7 {
-        say(
+        return say(
+            out,
+            page,
             b"# refused, 7: the number is 0, or the type, the voltage or the cause is not one of the annex's\n",
         );
     }
+    page
 }
 
 // The refusals by times, counts and numbers. No other number is answered to a record of a book that is read from its beginning: map and ledger are sound,
 // 8, 9 and 16 are the desk's, and a ledger that is full (15) has every number marked (14).
-fn say_refused_event(answer: u8) {
+fn say_refused_event(out: &mut [u8], page: Page, answer: u8) -> Page {
     if answer == 10 {
-        say(
+        return say(
+            out,
+            page,
             b"# refused, 10: the times are out of order, or past the year's end or minute 600,000, or a planned outage has T1 after T0\n",
         );
     }
     if answer == 11 {
-        say(b"# refused, 11: more customers are off on a level than the year sheet has there\n");
+        return say(
+            out,
+            page,
+            b"# refused, 11: more customers are off on a level than the year sheet has there\n",
+        );
     }
     if answer == 12 {
-        say(b"# refused, 12: customers are off on a level above the one of the event's voltage\n");
+        return say(
+            out,
+            page,
+            b"# refused, 12: customers are off on a level above the one of the event's voltage\n",
+        );
     }
     if answer == 13 {
-        say(b"# refused, 13: on some level n1 is 0 and n2 is not\n");
+        return say(
+            out,
+            page,
+            b"# refused, 13: on some level n1 is 0 and n2 is not\n",
+        );
     }
     if answer == 14 {
-        say(b"# refused, 14: an event with this number is in the book already\n");
+        return say(
+            out,
+            page,
+            b"# refused, 14: an event with this number is in the book already\n",
+        );
     }
+    page
 }
 
-fn say_answer(answer: u8, short: bool) {
-    if answer != 0 {
-        say_refused_form(answer);
-        say_refused_event(answer);
-        return;
-    }
+fn say_accepted(out: &mut [u8], page: Page, short: bool) -> Page {
     if short {
-        say(b"# accepted as short: 3 minutes or less, added to no total\n");
-        return;
+        return say(
+            out,
+            page,
+            b"# accepted as short: 3 minutes or less, added to no total\n",
+        );
     }
-    say(b"# accepted\n");
+    say(out, page, b"# accepted\n")
+}
+
+fn say_answer(out: &mut [u8], page: Page, answer: u8, short: bool) -> Page {
+    if answer == 0 {
+        return say_accepted(out, page, short);
+    }
+    if answer < 8 {
+        return say_refused_form(out, page, answer);
+    }
+    say_refused_event(out, page, answer)
 }
 
 // ---- lines
 
-fn say_line(out: &mut [u8], entry: Entry, year: u16) {
-    let end = line::write_line(out, entry, year);
-    let n = pen::put(out, end, 10);
-    say(wire::part(&out[..], 0, n));
+fn say_line(out: &mut [u8], page: Page, entry: Entry, year: u16) -> Page {
+    let begun = with_room(&out[..], page);
+    let end = line::write_line(out, begun.at, entry, year);
+    let at = pen::put(out, end, 10);
+    Page {
+        at,
+        lost: begun.lost,
+    }
 }
 
 // Bytes, up to 32 in a line.
-fn say_bytes(out: &mut [u8], bytes: &[u8]) {
+fn say_bytes(out: &mut [u8], begun: Page, bytes: &[u8]) -> Page {
+    let mut page = begun;
     let mut at = 0;
     while at < bytes.len() {
-        say_line(
+        page = say_line(
             out,
+            page,
             unpack::bytes_entry(wire::part(bytes, at, bytes.len())),
             0,
         );
         if bytes.len() - at < 32 {
-            return;
+            return page;
         }
         at += 32;
     }
+    page
 }
 
-fn say_record(out: &mut [u8], record: &[u8], year: u16) {
+fn say_record(out: &mut [u8], page: Page, record: &[u8], year: u16) -> Page {
     let entry = unpack::unpack(record);
     if entry.kind == shape::BLANK {
-        say_bytes(out, record);
-        return;
+        return say_bytes(out, page, record);
     }
-    say_line(out, entry, year);
+    say_line(out, page, entry, year)
 }
 
-fn say_first() {
-    say(b"# sheet: year | customers on NN VN VVN\n");
-    say(
+fn say_first(out: &mut [u8]) -> Page {
+    let begun = Page { at: 0, lost: false };
+    let sheet = say(out, begun, b"# sheet: year | customers on NN VN VVN\n");
+    let simple = say(
+        out,
+        sheet,
         b"# simple: number type voltage cause | T0 T1 T2 T3 T4 | n1 on NN VN VVN | n2 on NN VN VVN\n",
     );
     say(
+        out,
+        simple,
         b"# stepped: number type voltage cause | T0 | for each step its time, and who was off until then on NN VN VVN\n",
-    );
+    )
 }
 
 // ---- records
 
-// The ledger, the year that times are told in, and where the records read so far end.
+// The ledger, the year that times are told in, and the page.
 struct Reading {
     ledger: Ledger,
     year: u16,
-    stop: usize,
+    page: Page,
 }
 
 // One record: its answer, and its line.
-fn take_record(ledger: Ledger, year: u16, map: &mut [u8], record: &[u8], out: &mut [u8]) -> Ledger {
-    let taken = ledger.take(map, record);
+fn take_record(reading: Reading, map: &mut [u8], record: &[u8], out: &mut [u8]) -> Reading {
+    let taken = reading.ledger.take(map, record);
     let next = taken.ledger;
-    say_answer(taken.answer, ledger.short < next.short);
-    say_record(out, record, year);
-    next
+    let answered = say_answer(
+        out,
+        reading.page,
+        taken.answer,
+        reading.ledger.short < next.short,
+    );
+    Reading {
+        ledger: next,
+        year: unpack::year_after(reading.year, record),
+        page: say_record(out, answered, record, reading.year),
+    }
+}
+
+// Where the records read so far end.
+struct Records {
+    reading: Reading,
+    stop: usize,
 }
 
 // The whole records of what has arrived.
-fn take_records(begun: Ledger, told: u16, map: &mut [u8], bytes: &[u8], out: &mut [u8]) -> Reading {
-    let mut ledger = begun;
-    let mut year = told;
+fn take_records(begun: Reading, map: &mut [u8], bytes: &[u8], out: &mut [u8]) -> Records {
+    let mut reading = begun;
     let mut stop = 0;
     let mut turns: usize = 0;
     while turns < MOST_RECORDS {
         let stand = wire::stand_at(bytes, stop);
         if stand.which != 0 {
-            return Reading { ledger, year, stop };
+            return Records { reading, stop };
         }
-        let record = wire::part(bytes, stand.start, stand.end);
-        ledger = take_record(ledger, year, map, record, out);
-        year = unpack::year_after(year, record);
+        reading = take_record(reading, map, wire::part(bytes, stand.start, stand.end), out);
         stop = stand.end;
         turns += 1;
     }
-    Reading { ledger, year, stop }
+    Records { reading, stop }
 }
 
 // ---- the book
@@ -185,66 +277,111 @@ fn read_behind(buffer: &mut [u8], held: usize) -> Filled {
     }
 }
 
-// The bytes from a broken length on, to the input's end. Whether a read failed.
-fn say_rest(buffer: &mut [u8], begun: usize, out: &mut [u8]) -> bool {
-    say(
-        b"# refused, 2: the length in front of these bytes is wrong or they break off, and nothing after it can be read\n",
-    );
-    let mut held = begun;
-    let mut pieces: u64 = 0;
-    while pieces < MOST_PIECES {
-        let over = held % 32;
-        let whole = held - over;
-        say_bytes(out, wire::part(&buffer[..], 0, whole));
-        feed::move_to_front(buffer, whole, held);
-        let filled = read_behind(buffer, over);
-        if filled.failed {
-            return true;
-        }
-        if filled.count == over {
-            say_bytes(out, wire::part(&buffer[..], 0, over));
-            return false;
-        }
-        held = filled.count;
-        pieces += 1;
-    }
-    true
-}
-
-// Where the reading of a book stands after a piece of it: the ledger, the year that times are told in, the bytes of a record that is not whole yet, whether
-// the reading has ended, and whether a read failed.
+// Where the reading of a book stands after a piece of it: the bytes of a record that is not whole yet, whether the reading has ended, and whether a read
+// failed.
 struct Piece {
-    ledger: Ledger,
-    year: u16,
+    reading: Reading,
     held: usize,
     ended: bool,
     failed: bool,
 }
 
-fn ended(ledger: Ledger, failed: bool) -> Piece {
+fn ended(reading: Reading, failed: bool) -> Piece {
     Piece {
-        ledger,
-        year: 0,
+        reading,
         held: 0,
         ended: true,
         failed,
     }
 }
 
-// Holds what no whole record was read of; from a broken length on all bytes are said.
-fn hold(reading: Reading, buffer: &mut [u8], count: usize, out: &mut [u8]) -> Piece {
-    let ledger = reading.ledger;
-    if count < reading.stop {
-        return ended(ledger, true);
+// The bytes from a broken length on: the page, how many of them are left at the front of the buffer, less than a line of them, and whether a read failed.
+struct Rest {
+    page: Page,
+    held: usize,
+    failed: bool,
+}
+
+// Says whole lines of the bytes from a broken length on, to the input's end.
+fn say_rest(begun: Page, buffer: &mut [u8], count: usize, out: &mut [u8]) -> Rest {
+    let mut page = begun;
+    let mut held = count;
+    let mut pieces: u64 = 0;
+    while pieces < MOST_PIECES {
+        let over = held % 32;
+        let whole = held - over;
+        page = say_bytes(out, page, wire::part(&buffer[..], 0, whole));
+        feed::move_to_front(buffer, whole, held);
+        let filled = read_behind(buffer, over);
+        if filled.failed | (filled.count == over) {
+            return Rest {
+                page,
+                held: over,
+                failed: filled.failed,
+            };
+        }
+        held = filled.count;
+        pieces += 1;
     }
-    let held = count - reading.stop;
-    feed::move_to_front(buffer, reading.stop, count);
+    Rest {
+        page,
+        held: 0,
+        failed: true,
+    }
+}
+
+fn say_broken(out: &mut [u8], page: Page) -> Page {
+    say(
+        out,
+        page,
+        b"# refused, 2: the length in front of these bytes is wrong or they break off, and nothing after it can be read\n",
+    )
+}
+
+// The page, and whether a read failed.
+struct Outcome {
+    page: Page,
+    failed: bool,
+}
+
+// Says all bytes from a broken length on.
+fn say_all(begun: Page, buffer: &mut [u8], held: usize, out: &mut [u8]) -> Outcome {
+    let rest = say_rest(begun, buffer, held, out);
+    let page = say_bytes(out, rest.page, wire::part(&buffer[..], 0, rest.held));
+    Outcome {
+        page,
+        failed: rest.failed,
+    }
+}
+
+fn end_with_rest(reading: Reading, buffer: &mut [u8], held: usize, out: &mut [u8]) -> Piece {
+    let ledger = reading.ledger;
+    let begun = say_broken(out, reading.page);
+    let outcome = say_all(begun, buffer, held, out);
+    let page = outcome.page;
+    ended(
+        Reading {
+            ledger,
+            year: reading.year,
+            page,
+        },
+        outcome.failed,
+    )
+}
+
+// Holds what no whole record was read of.
+fn hold(records: Records, buffer: &mut [u8], count: usize, out: &mut [u8]) -> Piece {
+    let reading = records.reading;
+    if count < records.stop {
+        return ended(reading, true);
+    }
+    let held = count - records.stop;
+    feed::move_to_front(buffer, records.stop, count);
     if feed::is_dead(&buffer[..], held) {
-        return ended(ledger, say_rest(buffer, held, out));
+        return end_with_rest(reading, buffer, held, out);
     }
     Piece {
-        ledger,
-        year: reading.year,
+        reading,
         held,
         ended: false,
         failed: false,
@@ -253,21 +390,19 @@ fn hold(reading: Reading, buffer: &mut [u8], count: usize, out: &mut [u8]) -> Pi
 
 // What has arrived behind the bytes held at the front of the buffer: its whole records are taken, and the rest is held.
 fn take_arrived(
-    begun: Ledger,
-    told: u16,
+    begun: Reading,
     map: &mut [u8],
     buffer: &mut [u8],
     count: usize,
     out: &mut [u8],
 ) -> Piece {
-    let reading = take_records(begun, told, map, wire::part(&buffer[..], 0, count), out);
-    hold(reading, buffer, count, out)
+    let records = take_records(begun, map, wire::part(&buffer[..], 0, count), out);
+    hold(records, buffer, count, out)
 }
 
 // One piece more of a book.
 fn take_piece(
-    ledger: Ledger,
-    year: u16,
+    reading: Reading,
     map: &mut [u8],
     buffer: &mut [u8],
     held: usize,
@@ -275,42 +410,53 @@ fn take_piece(
 ) -> Piece {
     let filled = read_behind(buffer, held);
     if filled.failed {
-        return ended(ledger, true);
+        return ended(reading, true);
     }
     if filled.count != held {
-        return take_arrived(ledger, year, map, buffer, filled.count, out);
+        return take_arrived(reading, map, buffer, filled.count, out);
     }
     if held == 0 {
-        return ended(ledger, false);
+        return ended(reading, false);
     }
-    ended(ledger, say_rest(buffer, held, out))
+    end_with_rest(reading, buffer, held, out)
 }
 
-// Reads the book to its end. Whether a read failed.
-fn read_book(map: &mut [u8], buffer: &mut [u8], out: &mut [u8]) -> bool {
-    let mut ledger = Ledger::empty();
-    let mut year: u16 = 0;
+// Reads the book to its end.
+fn read_book(begun: Page, map: &mut [u8], buffer: &mut [u8], out: &mut [u8]) -> Outcome {
+    let mut reading = Reading {
+        ledger: Ledger::empty(),
+        year: 0,
+        page: begun,
+    };
     let mut held: usize = 0;
     let mut pieces: u64 = 0;
     while pieces < MOST_PIECES {
-        let piece = take_piece(ledger, year, map, buffer, held, out);
+        let piece = take_piece(reading, map, buffer, held, out);
+        reading = piece.reading;
+        let page = reading.page;
         if piece.ended {
-            return piece.failed;
+            return Outcome {
+                page,
+                failed: piece.failed,
+            };
         }
-        ledger = piece.ledger;
-        year = piece.year;
         held = piece.held;
         pieces += 1;
     }
-    true
+    let page = reading.page;
+    Outcome { page, failed: true }
 }
 
 fn main() {
     let mut map = [0u8; 8192];
     let mut buffer = io::large_buffer();
-    let mut out = io::buffer();
-    say_first();
-    if read_book(&mut map, &mut buffer, &mut out) {
+    let mut out = io::large_buffer();
+    let begun = say_first(&mut out);
+    let outcome = read_book(begun, &mut map, &mut buffer, &mut out);
+    if write_out(&out[..], outcome.page).lost {
+        io::write_all(STDERR_FILENO, b"book_read: the text cannot be written\n");
+    }
+    if outcome.failed {
         io::write_all(STDERR_FILENO, b"book_read: standard input cannot be read\n");
     }
 }

@@ -9,6 +9,9 @@ const MOST_PIECES: u64 = 1099511627776;
 // More lines than the buffer has room for.
 const MOST_LINES: usize = 65537;
 
+// The bytes of a book that wait before they are written out. A line stands for at most 1,038, so that the buffer has room for one more.
+const MOST_WAITING: usize = 61440;
+
 // ---- what goes wrong: one line on standard error
 
 fn tell(words: &[u8]) {
@@ -91,45 +94,79 @@ fn next(n: u64) -> u64 {
     n + 1
 }
 
-// The year that times are told in, and whether the text is wrong or the book cannot be written.
+// The year that times are told in, the place of the book's next byte in the buffer where it waits, and whether the text is wrong or the book cannot be
+// written.
 struct Told {
     year: u16,
+    at: usize,
     wrong: bool,
 }
 
-// One line, which is written out where that is asked.
+// Writes out the bytes that wait. Whether that failed.
+fn write_out(out: &[u8], at: usize) -> bool {
+    if io::write_all(STDOUT_FILENO, wire::part(out, 0, at)) {
+        return false;
+    }
+    complain(b"the book", b" cannot be written\n");
+    true
+}
+
+// What waits after a line: nothing where the book is not to be written yet, and all that the buffer has room for.
+fn keep(out: &[u8], year: u16, at: usize, writing: bool) -> Told {
+    if !writing {
+        return Told {
+            year,
+            at: 0,
+            wrong: false,
+        };
+    }
+    if at < MOST_WAITING {
+        return Told {
+            year,
+            at,
+            wrong: false,
+        };
+    }
+    Told {
+        year,
+        at: 0,
+        wrong: write_out(out, at),
+    }
+}
+
+// The year after a line that stands for some bytes.
+fn year_after(year: u16, kind: u8, bytes: &[u8]) -> u16 {
+    if kind != shape::SHEET {
+        return year;
+    }
+    unpack::year_after(year, bytes)
+}
+
+// One line, whose bytes are put behind those that wait.
 fn take_line(
     name: &[u8],
     line: u64,
     text: &[u8],
-    year: u16,
+    told: Told,
     writing: bool,
     out: &mut [u8],
 ) -> Told {
-    let parsed = entry::parse(text, year);
+    let parsed = entry::parse(text, told.year);
     if parsed.answer != 0 {
         tell_where(name, line, next(parsed.at as u64));
         tell_number(parsed.answer);
         tell_place(parsed.answer);
         tell(b"\n");
-        return Told { year, wrong: true };
+        return Told {
+            year: told.year,
+            at: told.at,
+            wrong: true,
+        };
     }
     let entry = parsed.entry;
-    let n = pack::pack(out, entry);
-    let bytes = wire::part(&out[..], 0, n);
-    if writing {
-        if !io::write_all(STDOUT_FILENO, bytes) {
-            complain(b"the book", b" cannot be written\n");
-            return Told { year, wrong: true };
-        }
-    }
-    if entry.kind != shape::SHEET {
-        return Told { year, wrong: false };
-    }
-    Told {
-        year: unpack::year_after(year, bytes),
-        wrong: false,
-    }
+    let at = pack::pack(out, told.at, entry);
+    let year = year_after(told.year, entry.kind, wire::part(&out[..], told.at, at));
+    keep(&out[..], year, at, writing)
 }
 
 // Where the line that begins at a place ends: at its newline, or where the text does.
@@ -144,49 +181,40 @@ fn line_end(text: &[u8], start: usize) -> usize {
     end
 }
 
-// Where the reading of a text stands: the year that times are told in, the lines read, where they end, and whether the text is wrong.
+// Where the reading of a text stands: what it has told, the lines read, and where they end.
 struct Reading {
-    year: u16,
+    told: Told,
     line: u64,
     stop: usize,
-    wrong: bool,
 }
 
 // The whole lines of what has arrived.
 fn take_lines(name: &[u8], begun: Reading, text: &[u8], writing: bool, out: &mut [u8]) -> Reading {
-    let mut year = begun.year;
+    let mut told = begun.told;
     let mut line = begun.line;
     let mut stop = 0;
     let mut turns: usize = 0;
     while turns < MOST_LINES {
         let end = line_end(text, stop);
         if text.len() <= end {
-            return Reading {
-                year,
-                line,
-                stop,
-                wrong: false,
-            };
+            return Reading { told, line, stop };
         }
         line = next(line);
-        let told = take_line(name, line, wire::part(text, stop, end), year, writing, out);
-        year = told.year;
+        told = take_line(name, line, wire::part(text, stop, end), told, writing, out);
         if told.wrong {
-            return Reading {
-                year,
-                line,
-                stop,
-                wrong: true,
-            };
+            return Reading { told, line, stop };
         }
         stop = end + 1;
         turns += 1;
     }
     Reading {
-        year,
+        told: Told {
+            year: 0,
+            at: 0,
+            wrong: true,
+        },
         line,
         stop,
-        wrong: true,
     }
 }
 
@@ -213,13 +241,16 @@ fn read_behind(fd: i32, buffer: &mut [u8], held: usize) -> Filled {
     }
 }
 
-// The last line, which has no newline. Whether it is wrong.
+// The last line, which has no newline, and the bytes that still wait. Whether the text is wrong or the book cannot be written.
 fn take_last(name: &[u8], reading: Reading, text: &[u8], writing: bool, out: &mut [u8]) -> bool {
     if text.len() == 0 {
-        return false;
+        return write_out(&out[..], reading.told.at);
     }
-    let told = take_line(name, next(reading.line), text, reading.year, writing, out);
-    told.wrong
+    let told = take_line(name, next(reading.line), text, reading.told, writing, out);
+    if told.wrong {
+        return true;
+    }
+    write_out(&out[..], told.at)
 }
 
 // Where the reading of a text stands after a piece of it: the bytes of a line that is not whole yet, whether the reading has ended, and whether the text is
@@ -250,7 +281,7 @@ fn take_arrived(
     out: &mut [u8],
 ) -> Piece {
     let reading = take_lines(name, begun, wire::part(&buffer[..], 0, count), writing, out);
-    if reading.wrong {
+    if reading.told.wrong {
         return ended(reading, true);
     }
     if count < reading.stop {
@@ -315,10 +346,13 @@ struct Outcome {
 // Reads a text to its end.
 fn read_text(fd: i32, name: &[u8], buffer: &mut [u8], writing: bool, out: &mut [u8]) -> Outcome {
     let mut reading = Reading {
-        year: 0,
+        told: Told {
+            year: 0,
+            at: 0,
+            wrong: false,
+        },
         line: 0,
         stop: 0,
-        wrong: false,
     };
     let mut held: usize = 0;
     let mut size: u64 = 0;
@@ -350,7 +384,7 @@ fn read_named(name: &[u8], writing: bool) -> Outcome {
         };
     }
     let mut buffer = io::large_buffer();
-    let mut out = io::buffer();
+    let mut out = io::large_buffer();
     let outcome = read_text(fd, name, &mut buffer, writing, &mut out);
     libc::close(fd);
     outcome

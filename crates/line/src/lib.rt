@@ -92,11 +92,11 @@ fn put_items(out: &mut [u8], at: usize, entry: Entry, year: u16) -> usize
     to
 }
 
-// Writes an entry's line to the front of a buffer, and answers how long it is; 4,096 bytes are room for every line. The year is that of the sheet before
-// it, 0 where there is none.
-pub fn write_line(out: &mut [u8], entry: Entry, year: u16) -> usize
-    ensures { λ r. ⌜ spot (now (out .exit)) r ≡ pushedAll (spot (now (out .entry)) 0) (lineOf entry year) ⌝ }
+// Writes an entry's line into a buffer from a place on, and answers the place after it; 4,096 bytes are room for every line. The year is that of the sheet
+// before it, 0 where there is none.
+pub fn write_line(out: &mut [u8], at: usize, entry: Entry, year: u16) -> usize
+    ensures { λ r. ⌜ spot (now (out .exit)) r ≡ pushedAll (spot (now (out .entry)) at) (lineOf entry year) ⌝ }
 {
-    let word = put_word(out, 0, entry.kind);
+    let word = put_word(out, at, entry.kind);
     put_items(out, word, entry, year)
 }

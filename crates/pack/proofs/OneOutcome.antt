@@ -6,4 +6,4 @@ use Rattle.pack.proofs.pack.Kinds as pack-kinds
 use Rattle.pack.proofs.pack.Reads as pack
 
 pub pack-one : OneOutcome pack-kinds.ps pack-kinds.r pack.Post
-pack-one κs a x y v w p q = (ap (λ (s : Spot). s .at) (alike p q), λ i. (alike p q i .bytes, (tt, tt)))
+pack-one κs a x y v w p q = (ap (λ (s : Spot). s .at) (alike p q), λ i. (alike p q i .bytes, (tt, (tt, tt))))

@@ -39,10 +39,10 @@ fn put_fours(out: &mut [u8], at: usize, values: [u32; 261], from: usize, count: 
 }
 
 // A record's length and kind.
-fn put_frame(out: &mut [u8], length: u32, kind: u32) -> usize
-    ensures { λ r. ⌜ spot (now (out .exit)) r ≡ pushedAll (spot (now (out .entry)) 0) (Rattle.pack.specs.Pack.frame length kind) ⌝ }
+fn put_frame(out: &mut [u8], at: usize, length: u32, kind: u32) -> usize
+    ensures { λ r. ⌜ spot (now (out .exit)) r ≡ pushedAll (spot (now (out .entry)) at) (Rattle.pack.specs.Pack.frame length kind) ⌝ }
 {
-    let to = pen::put_le2(out, 0, length);
+    let to = pen::put_le2(out, at, length);
     pen::put_le2(out, to, kind)
 }
 
@@ -58,57 +58,57 @@ fn put_head(out: &mut [u8], at: usize, values: [u32; 261]) -> usize
 }
 
 // A year sheet.
-fn put_sheet(out: &mut [u8], values: [u32; 261], count: usize) -> usize
+fn put_sheet(out: &mut [u8], at: usize, values: [u32; 261], count: usize) -> usize
     requires { ⌜ 1 ≤ count ⌝ }
-    ensures { λ r. ⌜ spot (now (out .exit)) r ≡ pushedAll (spot (now (out .entry)) 0) (Rattle.pack.specs.Pack.sheetBytes (take count values)) ⌝ }
+    ensures { λ r. ⌜ spot (now (out .exit)) r ≡ pushedAll (spot (now (out .entry)) at) (Rattle.pack.specs.Pack.sheetBytes (take count values)) ⌝ }
 {
-    let frame = put_frame(out, 18, 1);
+    let frame = put_frame(out, at, 18, 1);
     let year = pen::put_le2(out, frame, values[0]);
     put_fours(out, year, values, 1, count)
 }
 
 // A simple event.
-fn put_simple(out: &mut [u8], values: [u32; 261], count: usize) -> usize
+fn put_simple(out: &mut [u8], at: usize, values: [u32; 261], count: usize) -> usize
     requires { ⌜ 5 ≤ count ⌝ }
-    ensures { λ r. ⌜ spot (now (out .exit)) r ≡ pushedAll (spot (now (out .entry)) 0) (Rattle.pack.specs.Pack.simpleBytes (take count values)) ⌝ }
+    ensures { λ r. ⌜ spot (now (out .exit)) r ≡ pushedAll (spot (now (out .entry)) at) (Rattle.pack.specs.Pack.simpleBytes (take count values)) ⌝ }
 {
-    let frame = put_frame(out, 53, 2);
+    let frame = put_frame(out, at, 53, 2);
     let head = put_head(out, frame, values);
     put_fours(out, head, values, 5, count)
 }
 
 // A stepped event.
-fn put_stepped(out: &mut [u8], values: [u32; 261], count: usize) -> usize
+fn put_stepped(out: &mut [u8], at: usize, values: [u32; 261], count: usize) -> usize
     requires { ⌜ 5 ≤ count ⌝ }
     requires { ⌜ count ≤ 261 ⌝ }
-    ensures { λ r. ⌜ spot (now (out .exit)) r ≡ pushedAll (spot (now (out .entry)) 0) (Rattle.pack.specs.Pack.steppedBytes (take count values)) ⌝ }
+    ensures { λ r. ⌜ spot (now (out .exit)) r ≡ pushedAll (spot (now (out .entry)) at) (Rattle.pack.specs.Pack.steppedBytes (take count values)) ⌝ }
 {
     let steps = (count - 5) / 4;
-    let frame = put_frame(out, 14 + 16 * steps as u32, 3);
+    let frame = put_frame(out, at, 14 + 16 * steps as u32, 3);
     let head = put_head(out, frame, values);
     let steps_put = pen::put(out, head, steps as u8);
     put_fours(out, steps_put, values, 5, count)
 }
 
-// Writes what an entry stands for to the front of a buffer, and answers how many bytes that is; nothing for an entry that is not whole. 1,038 bytes are
+// Writes what an entry stands for into a buffer from a place on, and answers the place after it; nothing for an entry that is not whole. 1,038 bytes are
 // room for every entry. Of a number that is too large for its place the lowest bytes are written.
-pub fn pack(out: &mut [u8], entry: Entry) -> usize
-    ensures { λ r. ⌜ spot (now (out .exit)) r ≡ pushedAll (spot (now (out .entry)) 0) (packedOf entry) ⌝ }
+pub fn pack(out: &mut [u8], at: usize, entry: Entry) -> usize
+    ensures { λ r. ⌜ spot (now (out .exit)) r ≡ pushedAll (spot (now (out .entry)) at) (packedOf entry) ⌝ }
 {
     let kind = entry.kind;
     let count = entry.count;
     let values = entry.values;
     if !shape::is_whole(kind, count) {
-        return 0;
+        return at;
     }
     if kind == shape::SHEET {
-        return put_sheet(out, values, count);
+        return put_sheet(out, at, values, count);
     }
     if kind == shape::SIMPLE {
-        return put_simple(out, values, count);
+        return put_simple(out, at, values, count);
     }
     if kind == shape::STEPPED {
-        return put_stepped(out, values, count);
+        return put_stepped(out, at, values, count);
     }
-    put_bytes(out, 0, values, count)
+    put_bytes(out, at, values, count)
 }

@@ -7,10 +7,10 @@ use Rattle.book_read.proofs.read_book.Statement.{statement}
 use Rattle.book_read.proofs.read_book.Tie as tie
 
 abbrev Inv-loop : tie.InvT-loop
-Inv-loop map₀ buffer₀ out₀ ledger₀ year₀ held₀ pieces₀ map buffer out ledger year held pieces = (length map ≡ length map₀) × (length buffer ≡ length buffer₀) × (length out ≡ length out₀)
+Inv-loop map₀ buffer₀ out₀ reading₀ held₀ pieces₀ map buffer out reading held pieces = (length map ≡ length map₀) × (length buffer ≡ length buffer₀) × (length out ≡ length out₀)
 
 abbrev μ-loop : tie.MeasureT-loop
-μ-loop map₀ buffer₀ out₀ ledger₀ year₀ held₀ pieces₀ map buffer out ledger year held pieces = 1099511627776 - pieces
+μ-loop map₀ buffer₀ out₀ reading₀ held₀ pieces₀ map buffer out reading held pieces = 1099511627776 - pieces
 
 empty-requires : tie.Need-empty-requires Inv-loop μ-loop
 empty-requires c κs = search needs

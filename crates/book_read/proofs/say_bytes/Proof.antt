@@ -7,10 +7,10 @@ use Rattle.book_read.proofs.say_bytes.Statement.{statement}
 use Rattle.book_read.proofs.say_bytes.Tie as tie
 
 abbrev Inv-loop : tie.InvT-loop
-Inv-loop out₀ bytes at₀ out at = length out ≡ length out₀
+Inv-loop out₀ bytes page₀ at₀ out page at = length out ≡ length out₀
 
 abbrev μ-loop : tie.MeasureT-loop
-μ-loop out₀ bytes at₀ out at = length bytes - at
+μ-loop out₀ bytes page₀ at₀ out page at = length bytes - at
 
 loop-holds : tie.Need-loop-holds Inv-loop μ-loop
 loop-holds c = search needs

@@ -7,16 +7,10 @@ use Rattle.book_read.proofs.say_rest.Statement.{statement}
 use Rattle.book_read.proofs.say_rest.Tie as tie
 
 abbrev Inv-loop : tie.InvT-loop
-Inv-loop buffer₀ begun out₀ held₀ pieces₀ buffer out held pieces = (length buffer ≡ length buffer₀) × (length out ≡ length out₀)
+Inv-loop buffer₀ count out₀ page₀ held₀ pieces₀ buffer out page held pieces = (length buffer ≡ length buffer₀) × (length out ≡ length out₀)
 
 abbrev μ-loop : tie.MeasureT-loop
-μ-loop buffer₀ begun out₀ held₀ pieces₀ buffer out held pieces = 1099511627776 - pieces
-
-slice-aggregate-say : tie.Need-slice-aggregate-say Inv-loop μ-loop
-slice-aggregate-say c = search needs
-
-say-requires : tie.Need-say-requires Inv-loop μ-loop
-say-requires c κs = search needs
+μ-loop buffer₀ count out₀ page₀ held₀ pieces₀ buffer out page held pieces = 1099511627776 - pieces
 
 loop-holds : tie.Need-loop-holds Inv-loop μ-loop
 loop-holds c = search needs
@@ -45,11 +39,14 @@ same-length-2 c = search needs
 returns : tie.Need-returns Inv-loop μ-loop
 returns c = search needs
 
-part-requires-2 : tie.Need-part-requires-2 Inv-loop μ-loop
-part-requires-2 c κs = search needs
+add-pieces : tie.Need-add-pieces Inv-loop μ-loop
+add-pieces c = search needs
 
-say-bytes-requires-2 : tie.Need-say-bytes-requires-2 Inv-loop μ-loop
-say-bytes-requires-2 c κs = search needs
+loop-less : tie.Need-loop-less Inv-loop μ-loop
+loop-less c = search needs
+
+loop-again : tie.Need-loop-again Inv-loop μ-loop
+loop-again c = search needs
 
 same-length-3 : tie.Need-same-length-3 Inv-loop μ-loop
 same-length-3 c = search needs
@@ -60,32 +57,12 @@ same-length-4 c = search needs
 returns-2 : tie.Need-returns-2 Inv-loop μ-loop
 returns-2 c = search needs
 
-add-pieces : tie.Need-add-pieces Inv-loop μ-loop
-add-pieces c = search needs
-
-loop-less : tie.Need-loop-less Inv-loop μ-loop
-loop-less c = search needs
-
-loop-again : tie.Need-loop-again Inv-loop μ-loop
-loop-again c = search needs
-
-same-length-5 : tie.Need-same-length-5 Inv-loop μ-loop
-same-length-5 c = search needs
-
-same-length-6 : tie.Need-same-length-6 Inv-loop μ-loop
-same-length-6 c = search needs
-
-returns-3 : tie.Need-returns-3 Inv-loop μ-loop
-returns-3 c = search needs
-
 pub say-rest-spec : {M : Type 1} → statement M
 say-rest-spec =
     tie.close
     (tie.spec
     Inv-loop
     μ-loop
-    slice-aggregate-say
-    say-requires
     loop-holds
     sub-whole
     part-requires
@@ -95,14 +72,9 @@ say-rest-spec =
     same-length
     same-length-2
     returns
-    part-requires-2
-    say-bytes-requires-2
-    same-length-3
-    same-length-4
-    returns-2
     add-pieces
     loop-less
     loop-again
-    same-length-5
-    same-length-6
-    returns-3)
+    same-length-3
+    same-length-4
+    returns-2)

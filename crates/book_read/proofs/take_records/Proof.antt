@@ -7,10 +7,10 @@ use Rattle.book_read.proofs.take_records.Statement.{statement}
 use Rattle.book_read.proofs.take_records.Tie as tie
 
 abbrev Inv-loop : tie.InvT-loop
-Inv-loop told map₀ bytes out₀ ledger₀ year₀ stop₀ turns₀ map out ledger year stop turns = (length map ≡ length map₀) × (length out ≡ length out₀)
+Inv-loop map₀ bytes out₀ reading₀ stop₀ turns₀ map out reading stop turns = (length map ≡ length map₀) × (length out ≡ length out₀)
 
 abbrev μ-loop : tie.MeasureT-loop
-μ-loop told map₀ bytes out₀ ledger₀ year₀ stop₀ turns₀ map out ledger year stop turns = 65536 - turns
+μ-loop map₀ bytes out₀ reading₀ stop₀ turns₀ map out reading stop turns = 65536 - turns
 
 loop-holds : tie.Need-loop-holds Inv-loop μ-loop
 loop-holds c = search needs
@@ -32,9 +32,6 @@ part-requires c κs = search needs
 
 take-record-requires : tie.Need-take-record-requires Inv-loop μ-loop
 take-record-requires c κs = search needs
-
-year-after-requires : tie.Need-year-after-requires Inv-loop μ-loop
-year-after-requires c κs = search needs
 
 add-turns : tie.Need-add-turns Inv-loop μ-loop
 add-turns c = search needs
@@ -67,7 +64,6 @@ take-records-spec =
     returns
     part-requires
     take-record-requires
-    year-after-requires
     add-turns
     loop-less
     loop-again

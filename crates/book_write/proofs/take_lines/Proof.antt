@@ -7,10 +7,10 @@ use Rattle.book_write.proofs.take_lines.Statement.{statement}
 use Rattle.book_write.proofs.take_lines.Tie as tie
 
 abbrev Inv-loop : tie.InvT-loop
-Inv-loop name text writing out₀ year₀ line₀ stop₀ turns₀ out year line stop turns = length out ≡ length out₀
+Inv-loop name text writing out₀ told₀ line₀ stop₀ turns₀ out told line stop turns = length out ≡ length out₀
 
 abbrev μ-loop : tie.MeasureT-loop
-μ-loop name text writing out₀ year₀ line₀ stop₀ turns₀ out year line stop turns = 65537 - turns
+μ-loop name text writing out₀ told₀ line₀ stop₀ turns₀ out told line stop turns = 65537 - turns
 
 loop-holds : tie.Need-loop-holds Inv-loop μ-loop
 loop-holds c = search needs

@@ -20,7 +20,7 @@ same-length c = search needs
 returns : tie.Need-returns
 returns c =
     let a = c .before .before .before .before .before .before .before .before .before .args in
-    c .before .before .put-items .ensures ∙ ap (λ (s : Spot). pushedAll s (entryItems (a .entry) (a .year))) (c .before .before .before .before .before .before .put-word .ensures) ∙ sym (pushed-all-append (spot (a .out .now) 0) (wordText (a .entry .kind)) (entryItems (a .entry) (a .year)))
+    c .before .before .put-items .ensures ∙ ap (λ (s : Spot). pushedAll s (entryItems (a .entry) (a .year))) (c .before .before .before .before .before .before .put-word .ensures) ∙ sym (pushed-all-append (spot (a .out .now) (a .at)) (wordText (a .entry .kind)) (entryItems (a .entry) (a .year)))
 
 pub write-line-spec : {M : Type 1} → statement M
 write-line-spec = tie.close (tie.spec put-word-requires put-items-requires same-length returns)

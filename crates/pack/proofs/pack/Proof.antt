@@ -14,7 +14,7 @@ returns : tie.Need-returns
 returns c =
     let a = c .before .before .before .before .args in
     let none = sym (c .before .is-whole .ensures) ∙ not-true (c .before .is-whole .result) (c .if1 .taken) in
-    ap (pushedAll (spot (a .out .now) 0)) (sym (packed-none (a .entry) none))
+    ap (pushedAll (spot (a .out .now) (a .at))) (sym (packed-none (a .entry) none))
 
 put-sheet-requires : tie.Need-put-sheet-requires
 put-sheet-requires c κs =
@@ -28,7 +28,7 @@ returns-2 : tie.Need-returns-2
 returns-2 c =
     let a = c .before .before .before .before .before .before .before .before .before .args in
     let whole = sym (c .before .before .before .before .before .before .is-whole .ensures) ∙ not-false (c .before .before .before .before .before .before .is-whole .result) (c .before .before .before .before .before .if1 .left) in
-    c .before .before .put-sheet .ensures ∙ ap (pushedAll (spot (a .out .now) 0)) (sym (packed-sheet (a .entry) whole (c .before .before .before .before .if2 .taken)))
+    c .before .before .put-sheet .ensures ∙ ap (pushedAll (spot (a .out .now) (a .at))) (sym (packed-sheet (a .entry) whole (c .before .before .before .before .if2 .taken)))
 
 put-simple-requires : tie.Need-put-simple-requires
 put-simple-requires c κs =
@@ -42,7 +42,7 @@ returns-3 : tie.Need-returns-3
 returns-3 c =
     let a = c .before .before .before .before .before .before .before .before .before .before .args in
     let whole = sym (c .before .before .before .before .before .before .before .is-whole .ensures) ∙ not-false (c .before .before .before .before .before .before .before .is-whole .result) (c .before .before .before .before .before .before .if1 .left) in
-    c .before .before .put-simple .ensures ∙ ap (pushedAll (spot (a .out .now) 0)) (sym (packed-simple (a .entry) whole (c .before .before .before .before .if3 .taken)))
+    c .before .before .put-simple .ensures ∙ ap (pushedAll (spot (a .out .now) (a .at))) (sym (packed-simple (a .entry) whole (c .before .before .before .before .if3 .taken)))
 
 put-stepped-requires : tie.Need-put-stepped-requires
 put-stepped-requires c κs =
@@ -56,7 +56,7 @@ returns-4 : tie.Need-returns-4
 returns-4 c =
     let a = c .before .before .before .before .before .before .before .before .before .before .before .args in
     let whole = sym (c .before .before .before .before .before .before .before .before .is-whole .ensures) ∙ not-false (c .before .before .before .before .before .before .before .before .is-whole .result) (c .before .before .before .before .before .before .before .if1 .left) in
-    c .before .before .put-stepped .ensures ∙ ap (pushedAll (spot (a .out .now) 0)) (sym (packed-stepped (a .entry) whole (c .before .before .before .before .if4 .taken)))
+    c .before .before .put-stepped .ensures ∙ ap (pushedAll (spot (a .out .now) (a .at))) (sym (packed-stepped (a .entry) whole (c .before .before .before .before .if4 .taken)))
 
 put-bytes-requires : tie.Need-put-bytes-requires
 put-bytes-requires c κs = search needs
@@ -68,7 +68,7 @@ returns-5 : tie.Need-returns-5
 returns-5 c =
     let a = c .before .before .before .before .before .before .before .before .before .before .before .args in
     let whole = sym (c .before .before .before .before .before .before .before .before .is-whole .ensures) ∙ not-false (c .before .before .before .before .before .before .before .before .is-whole .result) (c .before .before .before .before .before .before .before .if1 .left) in
-    c .before .before .put-bytes .ensures ∙ ap (pushedAll (spot (a .out .now) 0)) (sym (packed-bytes (a .entry) whole (c .before .before .before .before .before .before .if2 .left) (c .before .before .before .before .before .if3 .left) (c .before .before .before .before .if4 .left)))
+    c .before .before .put-bytes .ensures ∙ ap (pushedAll (spot (a .out .now) (a .at))) (sym (packed-bytes (a .entry) whole (c .before .before .before .before .before .before .if2 .left) (c .before .before .before .before .before .if3 .left) (c .before .before .before .before .if4 .left)))
 
 pub pack-spec : {M : Type 1} → statement M
 pack-spec =

@@ -26,8 +26,8 @@ same-length c = search needs
 returns : tie.Need-returns
 returns c =
     let a = c .before .before .before .before .before .before .before .before .before .before .before .before .before .args in
-    let year = c .before .before .before .before .before .before .put-le2 .ensures ∙ ap (λ (s : Spot). pushedAll s (le2 (getD (a .t2) 0 0))) (c .before .before .before .before .before .before .before .before .before .before .put-frame .ensures) in
-    c .before .before .put-fours .ensures ∙ ap (λ (s : Spot). pushedAll s (fourEach (drop 1 (take (a .count) (a .t2))))) year ∙ sheet-laid (spot (a .out .now) 0) (a .count) (a .t2) (c .before .before .before .before .before .before .before .before .before .before .before .before .before .pre)
+    let year = c .before .before .before .before .before .before .put-le2 .ensures ∙ ap (λ (s : Spot). pushedAll s (le2 (getD (a .t3) 0 0))) (c .before .before .before .before .before .before .before .before .before .before .put-frame .ensures) in
+    c .before .before .put-fours .ensures ∙ ap (λ (s : Spot). pushedAll s (fourEach (drop 1 (take (a .count) (a .t3))))) year ∙ sheet-laid (spot (a .out .now) (a .at)) (a .count) (a .t3) (c .before .before .before .before .before .before .before .before .before .before .before .before .before .pre)
 
 pub put-sheet-spec : {M : Type 1} → statement M
 put-sheet-spec =

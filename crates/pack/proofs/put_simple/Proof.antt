@@ -24,7 +24,7 @@ returns : tie.Need-returns
 returns c =
     let a = c .before .before .before .before .before .before .before .before .before .before .before .before .before .args in
     let head = c .before .before .before .before .before .before .put-head .ensures ∙ ap (λ (s : Spot). pushedAll s (headBytes (a .values))) (c .before .before .before .before .before .before .before .before .before .before .put-frame .ensures) in
-    c .before .before .put-fours .ensures ∙ ap (λ (s : Spot). pushedAll s (fourEach (drop 5 (take (a .count) (a .values))))) head ∙ simple-laid (spot (a .out .now) 0) (a .count) (a .values) (c .before .before .before .before .before .before .before .before .before .before .before .before .before .pre)
+    c .before .before .put-fours .ensures ∙ ap (λ (s : Spot). pushedAll s (fourEach (drop 5 (take (a .count) (a .values))))) head ∙ simple-laid (spot (a .out .now) (a .at)) (a .count) (a .values) (c .before .before .before .before .before .before .before .before .before .before .before .before .before .pre)
 
 pub put-simple-spec : {M : Type 1} → statement M
 put-simple-spec =

@@ -44,7 +44,7 @@ returns c =
     let a = c .before .before .before .before .before .before .before .before .before .before .before .before .before .before .before .before .before .args in
     let head = c .before .before .before .before .before .before .before .before .before .before .put-head .ensures ∙ ap (λ (s : Spot). pushedAll s (headBytes (a .values))) (c .before .before .before .before .before .before .before .before .before .before .before .before .before .before .put-frame .ensures) in
     let steps = c .before .before .before .before .before .before .put .ensures ∙ ap (λ (s : Spot). pushed s ((a .count - 5) / 4)) head in
-    c .before .before .put-fours .ensures ∙ ap (λ (s : Spot). pushedAll s (fourEach (drop 5 (take (a .count) (a .values))))) steps ∙ stepped-laid (spot (a .out .now) 0) (a .count) (a .values) (search needs) (search needs)
+    c .before .before .put-fours .ensures ∙ ap (λ (s : Spot). pushedAll s (fourEach (drop 5 (take (a .count) (a .values))))) steps ∙ stepped-laid (spot (a .out .now) (a .at)) (a .count) (a .values) (search needs) (search needs)
 
 pub put-stepped-spec : {M : Type 1} → statement M
 put-stepped-spec =
