@@ -6,3 +6,4 @@ pub mod RecordBack
 pub mod FieldsBack
 pub mod BookBack
 pub mod TextBack
+pub mod NewlinesBack
