@@ -4,7 +4,7 @@ use decimal::Shown;
 use ledger::Ledger;
 use libc::STDOUT_FILENO;
 use rates::Figure;
-use table::Row;
+use row::Row;
 use table::Table;
 
 // ---- what is printed

@@ -12,7 +12,7 @@ use Rattle.base.specs.Lists.{listed}
 use Rattle.base.proofs.TestLaws.{or-left, or-right, or-both}
 use Rattle.ratio.specs.declared.Fraction.{Fraction}
 use Rattle.elements.specs.Elements.{elementListed}
-use Rattle.table.specs.declared.Row.{Row}
+use Rattle.row.specs.declared.Row.{Row}
 use Rattle.table.specs.declared.Table.{Table}
 use Rattle.table.specs.Table.{soundTable}
 use Rattle.table.proofs.ConditionLaws.{either}

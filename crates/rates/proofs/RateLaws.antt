@@ -12,7 +12,7 @@ use Rattle.ratio.specs.Fraction.{Same}
 use Rattle.ratio.specs.Lowest.{Lowest, lowestOf}
 use Rattle.ratio.proofs.Euclid.{lowest-same, lowest-lowest, lowest-decides}
 use Rattle.elements.specs.Elements.{elementListed}
-use Rattle.table.specs.declared.Row.{Row}
+use Rattle.row.specs.declared.Row.{Row}
 use Rattle.table.specs.declared.Table.{Table}
 use Rattle.table.specs.Table.{soundTable}
 use Rattle.table.proofs.BoundLaws.{sound-period}

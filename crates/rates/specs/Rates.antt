@@ -10,7 +10,7 @@ use Rattle.decimal.specs.declared.Shown.{Shown}
 use Rattle.decimal.specs.declared.Shown.the-variants as shown
 use Rattle.decimal.specs.Decimal.{shownOf}
 use Rattle.elements.specs.Elements.{elementListed, rowOf}
-use Rattle.table.specs.declared.Row.{Row}
+use Rattle.row.specs.declared.Row.{Row}
 use Rattle.table.specs.declared.Table.{Table}
 use Rattle.table.specs.Table.{rowOr, soundTable}
 use Rattle.rates.specs.declared.Figure.{Figure}

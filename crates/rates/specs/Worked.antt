@@ -8,9 +8,10 @@ use Rattle.base.specs.Lists.{All}
 use Rattle.ratio.specs.Lowest.{euclid, gcdOf, lowestOf}
 use Rattle.decimal.specs.Decimal.{rounded, decimalOf, shownOf, decimally}
 use Rattle.elements.specs.Elements.{codes, elementCount, elementListed, rowOf}
-use Rattle.table.specs.declared.Row.{Row}
+use Rattle.row.specs.declared.Row.{Row}
 use Rattle.table.specs.declared.Table.{Table}
-use Rattle.table.specs.Table.{noRow, soundTable}
+use Rattle.row.specs.Row.{noRow}
+use Rattle.table.specs.Table.{soundTable}
 use Rattle.rates.specs.declared.Figure.{Figure}
 use Rattle.rates.specs.declared.Figure.the-variants.{Is, Refused}
 use Rattle.rates.specs.Rates.{rateOf, meanOf, shownRate, shownMean}

@@ -10,7 +10,8 @@ use Rattle.base.proofs.FirstLaws.{clear, unclear}
 use Rattle.wire.specs.Frame.{framed, kindOf}
 use Rattle.table.specs.declared.Table.{Table}
 use Rattle.table.specs.Table.{begun, periodWithin, beginOf, soundTable, marked, fileBegun}
-use Rattle.table.specs.Rules.{rowNamed, rulesAt, rules, answerOf, sheetAnswer, outageAnswer, stockAnswer}
+use Rattle.filing.specs.Answers.{sheetAnswer, outageAnswer, stockAnswer}
+use Rattle.table.specs.Rules.{rowNamed, rulesAt, rules, answerOf}
 use Rattle.table.proofs.ConditionLaws.{kind-taken}
 
 module _ (t : Table) (s : List ℕ) where

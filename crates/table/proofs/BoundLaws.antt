@@ -11,9 +11,11 @@ use borrow.Author.Tests.{leb-true, leb-false, le-leb, le-ltb, ltb-false, eqb-tru
 use Rattle.base.specs.Lists.{every}
 use Rattle.base.proofs.TestLaws.{Tested, holds, fails, test, and-left, and-right, and-both, or-other}
 use Rattle.base.proofs.ChainLaws.{each-holds}
-use Rattle.table.specs.declared.Row.{Row}
+use Rattle.row.specs.declared.Row.{Row}
 use Rattle.table.specs.declared.Table.{Table}
-use Rattle.table.specs.Table.{rowOr, periodWithin, rowWithin, soundTable}
+use Rattle.row.specs.Row.{rowWithin}
+use Rattle.row.proofs.RowLaws.{RowSound, row-exactly}
+use Rattle.table.specs.Table.{rowOr, periodWithin, soundTable}
 
 -- "an observation period of 1 to 50 whole years"
 module _ (period : ℕ) where
@@ -38,46 +40,6 @@ module _ (period : ℕ) where
       back (holds e) (inl none) = let i = period-within .0 e in absurd (omega arith)
       back (holds e) (inr many) = let i = period-within .0 e in absurd (omega arith)
       back (fails e) o = e
-
--- a row within its bounds
-pub record RowSound (r : Row) : Type 0 where
-  pub outages : r .outages ≤ 65535
-  pub minutes : r .minutes ≤ r .outages * 600000
-  pub stock : r .stock ≤ 2
-  pub amount : r .stock ≡ 0 → r .amount ≡ 0
-
-pub row-exactly : (r : Row) → (rowWithin r ≡ true) ↔ RowSound r
-row-exactly r = (there, back)
-  where
-    told : Bool
-    told = ltb 0 (r .stock) || eqb (r .amount) 0
-
-    nothing : told ≡ true → r .stock ≡ 0 → r .amount ≡ 0
-    nothing e none = eqb-true (r .amount) 0 (or-other (ltb 0 (r .stock)) _ (le-ltb 0 (r .stock) (omega arith)) e)
-
-    there : rowWithin r ≡ true → RowSound r
-    there e =
-        let k = each-holds (leb (r .outages) 65535) (leb (r .minutes) (r .outages * 600000) ∷ leb (r .stock) 2 ∷ told ∷ []) e in
-        record {
-          outages = leb-true _ _ (k .0);
-          minutes = leb-true _ _ (k .1 .0);
-          stock = leb-true _ _ (k .1 .1 .0);
-          amount = nothing (k .1 .1 .1 .0);
-        }
-
-    tells : Tested (ltb 0 (r .stock)) → (r .stock ≡ 0 → r .amount ≡ 0) → told ≡ true
-    tells (holds e) none = ap (λ b. b || eqb (r .amount) 0) e
-    tells (fails e) none =
-        let z : r .stock ≡ 0 = omega (arith, ltb-false 0 (r .stock) e) in
-        ap (λ b. ltb 0 (r .stock) || b) (eq-eqb (r .amount) 0 (none z)) ∙ or-true (ltb 0 (r .stock))
-
-    back : RowSound r → rowWithin r ≡ true
-    back s =
-        and-both (leb (r .outages) 65535 && leb (r .minutes) (r .outages * 600000) && leb (r .stock) 2) told
-        (and-both (leb (r .outages) 65535 && leb (r .minutes) (r .outages * 600000)) (leb (r .stock) 2)
-        (and-both (leb (r .outages) 65535) (leb (r .minutes) (r .outages * 600000)) (le-leb _ _ (s .outages)) (le-leb _ _ (s .minutes)))
-        (le-leb _ _ (s .stock)))
-        (tells (test (ltb 0 (r .stock))) (s .amount))
 
 -- past the last row there is none, and that is within the bounds
 each-row : (rows : List Row) → every rowWithin rows ≡ true → (row : ℕ) → rowWithin (rowOr rows row) ≡ true

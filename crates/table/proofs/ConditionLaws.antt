@@ -15,7 +15,7 @@ use Rattle.fields.specs.Fields.{sheetIn}
 use Rattle.fields.specs.Tests.{inRange}
 use Rattle.elements.specs.Elements.{elementListed}
 use Rattle.table.specs.declared.Table.{Table}
-use Rattle.table.specs.Fields.{codeIn, startIn, endIn, unitIn}
+use Rattle.filing.specs.Fields.{codeIn, startIn, endIn, unitIn}
 use Rattle.table.specs.Rules.{byKind, rowNamed, unframed, kindNotTaken, lengthWrong, outOfPlace, sheetOutOfRange, notListed, timeWrong, codeFull}
 
 -- what is said of a year sheet, of an element outage and of a stock

@@ -21,7 +21,7 @@ use Rattle.elements.specs.Elements.{elementListed}
 use Rattle.table.specs.declared.Table.{Table}
 use Rattle.table.specs.declared.Filed.{Filed}
 use Rattle.table.specs.Table.{periodWithin, beginOf, soundTable, fileBegun}
-use Rattle.table.specs.Fields.{codeIn, startIn, endIn, unitIn}
+use Rattle.filing.specs.Fields.{codeIn, startIn, endIn, unitIn}
 use Rattle.table.specs.Rules.{rowNamed, unframed, kindNotTaken, lengthWrong, outOfPlace, sheetOutOfRange, notListed, timeWrong, codeFull, rulesAt, rules, answerOf}
 use Rattle.table.proofs.BoundLaws.{period-within, period-outside}
 use Rattle.table.proofs.AnswerLaws.{rules-rise, accepted-clear, clear-accepted, begins, begins-none, file-begins, file-refused}

@@ -14,13 +14,15 @@ use Rattle.base.proofs.TestLaws.{Tested, holds, fails, test}
 use Rattle.wire.specs.Frame.{kindOf}
 use Rattle.elements.specs.Elements.{elementListed, rowOf}
 use Rattle.elements.proofs.CodeLaws.{listed-row}
-use Rattle.table.specs.declared.Row.{Row}
+use Rattle.row.specs.declared.Row.{Row}
 use Rattle.table.specs.declared.Table.{Table}
 use Rattle.table.specs.declared.Filed.{Filed}
-use Rattle.table.specs.Table.{noRow, begun, rowOr, periodWithin, beginOf, soundTable, marked, fileBegun}
-use Rattle.table.specs.Fields.{codeIn, startIn, endIn, unitIn, amountIn}
+use Rattle.row.specs.Row.{noRow}
+use Rattle.table.specs.Table.{begun, rowOr, periodWithin, beginOf, soundTable, marked, fileBegun}
+use Rattle.filing.specs.Fields.{codeIn, startIn, endIn, unitIn, amountIn}
 use Rattle.table.specs.Rules.{rowNamed, answerOf}
-use Rattle.table.specs.Take.{withOutage, withStock, withRow, acceptedAt, tableAfter}
+use Rattle.row.specs.Row.{withOutage, withStock}
+use Rattle.table.specs.Take.{withRow, acceptedAt, tableAfter}
 use Rattle.table.proofs.AnswerLaws.{accepted-kind, begins, begins-none, file-begins, file-refused}
 use Rattle.table.proofs.ExactlyThen.{exactly-1, exactly-sheet, exactly-outage, exactly-stock}
 

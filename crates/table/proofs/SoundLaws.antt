@@ -11,14 +11,17 @@ use Rattle.base.proofs.TestLaws.{Tested, holds, fails, test, and-left, and-righ
 use Rattle.base.proofs.ListLaws.{every-set}
 use Rattle.wire.specs.Frame.{kindOf}
 use Rattle.elements.specs.Elements.{rowOf}
-use Rattle.table.specs.declared.Row.{Row}
+use Rattle.row.specs.declared.Row.{Row}
 use Rattle.table.specs.declared.Table.{Table}
 use Rattle.table.specs.declared.Filed.{Filed}
-use Rattle.table.specs.Table.{begun, periodWithin, beginOf, rowWithin, soundTable, marked, fileBegun}
-use Rattle.table.specs.Fields.{codeIn, startIn, endIn, unitIn, amountIn}
+use Rattle.row.specs.Row.{rowWithin}
+use Rattle.table.specs.Table.{begun, periodWithin, beginOf, soundTable, marked, fileBegun}
+use Rattle.filing.specs.Fields.{codeIn, startIn, endIn, unitIn, amountIn}
 use Rattle.table.specs.Rules.{rowNamed, answerOf}
-use Rattle.table.specs.Take.{withOutage, withStock, withRow, tableAfter}
-use Rattle.table.proofs.BoundLaws.{period-within, period-outside, RowSound, row-exactly, sound-row}
+use Rattle.row.specs.Row.{withOutage, withStock}
+use Rattle.table.specs.Take.{withRow, tableAfter}
+use Rattle.row.proofs.RowLaws.{RowSound, row-exactly}
+use Rattle.table.proofs.BoundLaws.{period-within, period-outside, sound-row}
 use Rattle.table.proofs.AnswerLaws.{begins, begins-none, file-begins, file-refused}
 use Rattle.table.proofs.ExactlyThen.{exactly-outage, exactly-stock, begin-exactly-0, begin-exactly-24}
 use Rattle.table.proofs.RefusedLaws.{by-outcome, unsound-hands-back}

@@ -1,4 +1,3 @@
 pub mod Table
-pub mod Fields
 pub mod Rules
 pub mod Take

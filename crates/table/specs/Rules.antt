@@ -9,10 +9,10 @@ use Rattle.wire.specs.Frame.{framed, kindOf}
 use Rattle.fields.specs.Fields.{sheetIn}
 use Rattle.fields.specs.Tests.{inRange}
 use Rattle.elements.specs.Elements.{elementListed, rowOf}
-use Rattle.table.specs.declared.Row.{Row}
+use Rattle.row.specs.declared.Row.{Row}
 use Rattle.table.specs.declared.Table.{Table}
 use Rattle.table.specs.Table.{rowOr, soundTable}
-use Rattle.table.specs.Fields.{codeIn, startIn, endIn, unitIn}
+use Rattle.filing.specs.Fields.{codeIn, startIn, endIn, unitIn}
 
 -- what is asked of a year sheet (kind 1), of an element outage (4) and of a stock (5); nothing is asked of another kind
 abbrev pub byKind : ℕ → Bool → Bool → Bool → Bool
@@ -72,23 +72,3 @@ rules t s = (1, not (soundTable t)) ∷ (2, unframed s) ∷ rulesAt (kindOf s) s
 -- "the smallest that applies"
 unfoldable pub answerOf : Table → List ℕ → ℕ
 answerOf t s = first (rules t s)
-
--- what is left of the rules for each kind, once the table is sound and the record framed
-abbrev pub sheetAnswer : Bool → List ℕ → ℕ
-sheetAnswer seen s = first ((4, not (eqb (length s) 18)) ∷ (5, seen) ∷ (6, not (inRange (sheetIn s))) ∷ [])
-
-abbrev pub outageAnswer : Bool → Row → List ℕ → ℕ
-outageAnswer seen r s =
-    first
-    ((4, not (eqb (length s) 14)) ∷
-    (5, not seen) ∷
-    (7, not (elementListed (codeIn s))) ∷
-    (10, ltb (endIn s) (startIn s) || ltb 600000 (startIn s) || ltb 600000 (endIn s)) ∷
-    (15, leb 65535 (r .outages)) ∷ [])
-
-abbrev pub stockAnswer : Bool → Row → List ℕ → ℕ
-stockAnswer seen r s =
-    first
-    ((4, not (eqb (length s) 11)) ∷
-    (5, not seen || ltb 0 (r .stock)) ∷
-    (7, not (elementListed (codeIn s)) || ltb 1 (unitIn s)) ∷ [])

@@ -1,19 +1,16 @@
 -- "An element table is begun for an observation period of 1 to 50 whole years and fed one or more yearly files" (02, K1): what it holds, when it is
 -- sound, how it and a file are begun.
-use Prim.Native.Nat.{ℕ, _*_}
+use Prim.Native.Nat.{ℕ}
 use mathlib.Core.List.{List}
-use mathlib.Core.Bool.{Bool, true, false, _&&_, _||_, not, cond}
+use mathlib.Core.Bool.{Bool, true, false, _&&_, cond}
 use lib.ListN.{getD, replicate}
-use lib.Dec.{leb, ltb, eqb}
+use lib.Dec.{leb}
 use Rattle.base.specs.Lists.{every}
 use Rattle.elements.specs.Elements.{elementCount}
-use Rattle.table.specs.declared.Row.{Row}
+use Rattle.row.specs.declared.Row.{Row}
+use Rattle.row.specs.Row.{noRow, rowWithin}
 use Rattle.table.specs.declared.Table.{Table}
 use Rattle.table.specs.declared.Filed.{Filed}
-
--- no outage, and no stock told
-abbrev pub noRow : Row
-noRow = record { outages = 0; minutes = 0; stock = 0; amount = 0 }
 
 abbrev pub begun : ℕ → Table
 begun period = record { period = period; seen = false; rows = replicate elementCount noRow }
@@ -29,11 +26,6 @@ beginOf period = cond (periodWithin period) (record { answer = 0; table = begun 
 -- the row of an element; past the last there is none
 abbrev pub rowOr : List Row → ℕ → Row
 rowOr rows at = getD rows at noRow
-
--- "outages over 65,535, minutes over outages x 600,000, a stock mark that is none of its values, no stock marked but an amount not 0"
-abbrev pub rowWithin : Row → Bool
-rowWithin r =
-    leb (r .outages) 65535 && leb (r .minutes) (r .outages * 600000) && leb (r .stock) 2 && (ltb 0 (r .stock) || eqb (r .amount) 0)
 
 -- not "1 a table past its bounds (period not 1 to 50, ..)"
 unfoldable pub soundTable : Table → Bool

@@ -1,25 +1,18 @@
 -- What an accepted record does to a table; "a refusal hands the table back as it was" (02, K1).
-use Prim.Native.Nat.{ℕ, _+_, _-_}
+use Prim.Native.Nat.{ℕ, _-_}
 use mathlib.Core.List.{List}
 use mathlib.Core.Bool.{true, cond}
 use lib.ListN.{set}
 use lib.Dec.{eqb}
 use Rattle.wire.specs.Frame.{kindOf}
 use Rattle.elements.specs.Elements.{rowOf}
-use Rattle.table.specs.declared.Row.{Row}
+use Rattle.row.specs.declared.Row.{Row}
+use Rattle.row.specs.Row.{withOutage, withStock}
 use Rattle.table.specs.declared.Table.{Table}
 use Rattle.table.specs.declared.Filed.{Filed}
 use Rattle.table.specs.Table.{rowOr, marked}
-use Rattle.table.specs.Fields.{codeIn, startIn, endIn, unitIn, amountIn}
+use Rattle.filing.specs.Fields.{codeIn, startIn, endIn, unitIn, amountIn}
 use Rattle.table.specs.Rules.{rowNamed, answerOf}
-
--- one outage more, of so many minutes
-abbrev pub withOutage : Row → ℕ → Row
-withOutage r minutes = record { outages = r .outages + 1; minutes = r .minutes + minutes; stock = r .stock; amount = r .amount }
-
--- the stock told: pieces are marked 1, a line 2
-abbrev pub withStock : Row → ℕ → ℕ → Row
-withStock r unit amount = record { outages = r .outages; minutes = r .minutes; stock = unit + 1; amount = amount }
 
 -- the table with another row for an element
 abbrev pub withRow : Table → ℕ → Row → Table

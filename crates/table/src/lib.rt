@@ -3,17 +3,11 @@ ghost use mathlib.Core.Path.{_≡_};
 ghost use Prim.Native.Nat.{_≤_};
 ghost use Rattle.base.specs.Lists.{every};
 ghost use Rattle.wire.specs.Frame.{kindOf};
-ghost use Rattle.table.specs.Table.{noRow, rowOr, beginOf, fileBegun, rowWithin, soundTable};
-ghost use Rattle.table.specs.Rules.{sheetAnswer, outageAnswer, stockAnswer, answerOf};
-ghost use Rattle.table.specs.Take.{withOutage, withStock, withRow, acceptedAt, takenOf};
-
-// What is known of one element: its outages with their minutes, and its stock: 0 none told, 1 pieces, 2 line in tenths of a kilometre.
-pub struct Row {
-    pub outages: u32,
-    pub minutes: u64,
-    pub stock: u8,
-    pub amount: u32,
-}
+ghost use Rattle.row.specs.Row.{rowWithin};
+ghost use Rattle.table.specs.Table.{rowOr, beginOf, fileBegun, soundTable};
+ghost use Rattle.table.specs.Rules.{answerOf};
+ghost use Rattle.table.specs.Take.{withRow, acceptedAt, takenOf};
+use row::Row;
 
 // The observation period in years, whether the file's year sheet was seen, and a row for each element in the order of 9.8.
 pub struct Table {
@@ -26,56 +20,6 @@ pub struct Table {
 pub struct Filed {
     pub answer: u8,
     pub table: Table,
-}
-
-impl Row {
-    // No outage, and no stock told.
-    pub fn none() -> Row
-        ensures { λ r. ⌜ r ≡ noRow ⌝ }
-    {
-        Row {
-            outages: 0,
-            minutes: 0,
-            stock: 0,
-            amount: 0,
-        }
-    }
-
-    // With one outage more, of so many minutes.
-    pub fn with_outage(self, minutes: u32) -> Row
-        requires { ⌜ (self .outages ≤ 65535) × (self .minutes ≤ 39321000000) ⌝ }
-        ensures { λ r. ⌜ r ≡ withOutage self minutes ⌝ }
-    {
-        Row {
-            outages: self.outages + 1,
-            minutes: self.minutes + minutes as u64,
-            stock: self.stock,
-            amount: self.amount,
-        }
-    }
-
-    // With its stock told, in pieces (0) or as a line (1).
-    pub fn with_stock(self, unit: u8, amount: u32) -> Row
-        requires { ⌜ unit ≤ 1 ⌝ }
-        ensures { λ r. ⌜ r ≡ withStock self unit amount ⌝ }
-    {
-        Row {
-            outages: self.outages,
-            minutes: self.minutes,
-            stock: unit + 1,
-            amount,
-        }
-    }
-
-    // Whether the row is within its bounds.
-    fn within(self) -> bool
-        ensures { λ r. ⌜ r ≡ rowWithin self ⌝ }
-    {
-        (self.outages <= 65535)
-            & (self.minutes <= self.outages as u64 * 600000)
-            & (self.stock <= 2)
-            & ((0 < self.stock) | (self.amount == 0))
-    }
 }
 
 // Whether every row is.
@@ -99,64 +43,6 @@ fn row_at(rows: [Row; 62], at: usize) -> Row
         return Row::none();
     }
     rows[at]
-}
-
-// The smallest number that applies to a year sheet, an outage and a stock, once the table is sound and the record framed.
-fn sheet_answer(seen: bool, bytes: &[u8]) -> u8
-    ensures { λ r. ⌜ r ≡ sheetAnswer seen (now (bytes .entry)) ⌝ }
-{
-    if bytes.len() != 18 {
-        return 4;
-    }
-    if seen {
-        return 5;
-    }
-    let sheet = fields::sheet_of(bytes);
-    if !sheet.in_range() {
-        return 6;
-    }
-    0
-}
-
-fn outage_answer(seen: bool, row: Row, bytes: &[u8]) -> u8
-    ensures { λ r. ⌜ r ≡ outageAnswer seen row (now (bytes .entry)) ⌝ }
-{
-    if bytes.len() != 14 {
-        return 4;
-    }
-    if !seen {
-        return 5;
-    }
-    if !elements::is_element(wire::u16_at(bytes, 4)) {
-        return 7;
-    }
-    let start = wire::u32_at(bytes, 6);
-    let end = wire::u32_at(bytes, 10);
-    if (end < start) | (600000 < start) | (600000 < end) {
-        return 10;
-    }
-    if 65535 <= row.outages {
-        return 15;
-    }
-    0
-}
-
-fn stock_answer(seen: bool, row: Row, bytes: &[u8]) -> u8
-    ensures { λ r. ⌜ r ≡ stockAnswer seen row (now (bytes .entry)) ⌝ }
-{
-    if bytes.len() != 11 {
-        return 4;
-    }
-    if !seen {
-        return 5;
-    }
-    if 0 < row.stock {
-        return 5;
-    }
-    if !elements::is_element(wire::u16_at(bytes, 4)) | (1 < wire::byte_at(bytes, 6)) {
-        return 7;
-    }
-    0
 }
 
 impl Table {
@@ -229,13 +115,13 @@ impl Table {
         let row = row_at(rows, elements::row_of(wire::u16_at(bytes, 4)));
         let kind = wire::kind_of(bytes);
         if kind == 1 {
-            return sheet_answer(self.seen, bytes);
+            return filing::sheet_answer(self.seen, bytes);
         }
         if kind == 4 {
-            return outage_answer(self.seen, row, bytes);
+            return filing::outage_answer(self.seen, row, bytes);
         }
         if kind == 5 {
-            return stock_answer(self.seen, row, bytes);
+            return filing::stock_answer(self.seen, row, bytes);
         }
         3
     }

@@ -7,8 +7,9 @@ use lib.ListN.{replicate, getD-replicate}
 use native.Mathlib.Omega.{arith}
 use Rattle.wire.specs.Cut.{cutIn, recordsOf, joined}
 use Rattle.elements.specs.Elements.{codes, elementListed, rowOf}
-use Rattle.table.specs.declared.Row.{Row}
-use Rattle.table.specs.Table.{noRow, rowOr, begun, soundTable}
+use Rattle.row.specs.declared.Row.{Row}
+use Rattle.row.specs.Row.{noRow}
+use Rattle.table.specs.Table.{rowOr, begun, soundTable}
 use Rattle.table.specs.Rules.{answerOf}
 use Rattle.table.specs.Take.{tableAfter}
 use Rattle.yearly.specs.Yearly.{takeRecord}

@@ -11,9 +11,10 @@ use native.Mathlib.Omega.{arith}
 use Rattle.base.specs.Lists.{All}
 use Rattle.base.proofs.ListLaws.{all-append}
 use Rattle.wire.specs.Cut.{recordsOf}
-use Rattle.table.specs.declared.Row.{Row}
+use Rattle.row.specs.declared.Row.{Row}
 use Rattle.table.specs.declared.Table.{Table}
-use Rattle.table.specs.Table.{noRow, begun, periodWithin, marked}
+use Rattle.row.specs.Row.{noRow}
+use Rattle.table.specs.Table.{begun, periodWithin, marked}
 use Rattle.table.proofs.RefusedLaws.{begun-rows}
 use Rattle.table.proofs.SoundLaws.{begun-sound}
 use Rattle.yearly.specs.Yearly.{AcceptedFiles}

@@ -9,8 +9,8 @@ use native.Mathlib.Nat.{add-zero}
 use native.Mathlib.Omega.{arith}
 use borrow.Author.Tests.{lt-ltb}
 use Rattle.order.specs.Perm.{Perm, done, keep, swap, then}
-use Rattle.table.specs.declared.Row.{Row}
-use Rattle.table.specs.Fields.{unitIn}
+use Rattle.row.specs.declared.Row.{Row}
+use Rattle.filing.specs.Fields.{unitIn}
 use Rattle.tallies.specs.Tally.{isStock, stocksOf, stockOf, total}
 
 -- two rows with the same four numbers

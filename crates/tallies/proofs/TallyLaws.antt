@@ -17,12 +17,13 @@ use Rattle.base.proofs.TestLaws.{Tested, holds, fails, test, and-both, or-left,
 use Rattle.wire.specs.Frame.{kindOf}
 use Rattle.elements.specs.Elements.{elementListed, rowOf}
 use Rattle.elements.proofs.CodeLaws.{listed-row}
-use Rattle.table.specs.declared.Row.{Row}
+use Rattle.row.specs.declared.Row.{Row}
 use Rattle.table.specs.declared.Table.{Table}
 use Rattle.table.specs.Table.{rowOr, soundTable}
-use Rattle.table.specs.Fields.{codeIn, startIn, endIn, unitIn, amountIn}
+use Rattle.filing.specs.Fields.{codeIn, startIn, endIn, unitIn, amountIn}
 use Rattle.table.specs.Rules.{rowNamed, lengthWrong, notListed, timeWrong, rules, rulesAt, answerOf}
-use Rattle.table.specs.Take.{withOutage, withStock, tableAfter}
+use Rattle.row.specs.Row.{withOutage, withStock}
+use Rattle.table.specs.Take.{tableAfter}
 use Rattle.table.proofs.BoundLaws.{sound-row}
 use Rattle.table.proofs.AnswerLaws.{accepted-clear, clear-accepted, accepted-kind}
 use Rattle.table.proofs.ExactlyThen.{exactly-sheet, exactly-outage, exactly-stock}

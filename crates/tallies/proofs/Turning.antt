@@ -17,9 +17,10 @@ use Rattle.wire.specs.Cut.{recordsOf, joined}
 use Rattle.wire.specs.declared.Place.{Place}
 use Rattle.wire.proofs.CutLaws.{Framed, cut-joined, joined-ends}
 use Rattle.order.proofs.PermLaws.{perm-all}
-use Rattle.table.specs.declared.Row.{Row}
+use Rattle.row.specs.declared.Row.{Row}
 use Rattle.table.specs.declared.Table.{Table}
-use Rattle.table.specs.Table.{noRow, rowOr, soundTable}
+use Rattle.row.specs.Row.{noRow}
+use Rattle.table.specs.Table.{rowOr, soundTable}
 use Rattle.yearly.specs.Yearly.{afterFiles, AcceptedFiles}
 use Rattle.tallies.specs.Tally.{outagesOf, minutesOf, stocksOf, stockOf, amountOf, total, tallied, Fitting, Each, Tells}
 use Rattle.tallies.specs.Turned.{after, Turned, none, both, swap, then, filesOf, SameTable}

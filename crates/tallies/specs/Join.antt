@@ -3,7 +3,7 @@ use Prim.Native.Nat.{ℕ, _+_, _<_, _≤_}
 use mathlib.Core.Path.{_≡_}
 use mathlib.Core.Logic.{_⊎_}
 use mathlib.Core.List.{List, _++_}
-use Rattle.table.specs.declared.Row.{Row}
+use Rattle.row.specs.declared.Row.{Row}
 use Rattle.table.specs.declared.Table.{Table}
 use Rattle.table.specs.Table.{rowOr, begun}
 use Rattle.yearly.specs.Yearly.{afterFiles, AcceptedFiles}

@@ -11,9 +11,10 @@ use Rattle.wire.specs.Cut.{cutIn, recordsOf, stopIn, stopFrom, joined}
 use Rattle.worked.specs.Bytes.{two, four, three, sheet}
 use Rattle.order.specs.Perm.{swap}
 use Rattle.elements.specs.Elements.{codes, elementListed, rowOf}
-use Rattle.table.specs.declared.Row.{Row}
+use Rattle.row.specs.declared.Row.{Row}
 use Rattle.table.specs.declared.Table.{Table}
-use Rattle.table.specs.Table.{noRow, begun, soundTable, marked}
+use Rattle.row.specs.Row.{noRow}
+use Rattle.table.specs.Table.{begun, soundTable, marked}
 use Rattle.table.specs.Rules.{answerOf}
 use Rattle.table.specs.Take.{withRow, tableAfter}
 use Rattle.yearly.specs.Yearly.{takeRecord, isBroken, afterFile, AcceptedFile, AcceptedFiles}

@@ -9,10 +9,10 @@ use lib.Dec.{ltb, eqb}
 use Rattle.base.specs.Lists.{sum, All}
 use Rattle.wire.specs.Frame.{kindOf}
 use Rattle.elements.specs.Elements.{rowOf}
-use Rattle.table.specs.declared.Row.{Row}
+use Rattle.row.specs.declared.Row.{Row}
 use Rattle.table.specs.declared.Table.{Table}
 use Rattle.table.specs.Table.{rowOr}
-use Rattle.table.specs.Fields.{codeIn, startIn, endIn, unitIn, amountIn}
+use Rattle.filing.specs.Fields.{codeIn, startIn, endIn, unitIn, amountIn}
 use Rattle.table.specs.Rules.{unframed, lengthWrong, notListed, timeWrong}
 
 -- a record that tells an outage, or the stock, of the element of a row

@@ -9,7 +9,7 @@ use borrow.Author.Needs.{needs}
 use Rattle.ratio.specs.Lowest.{lowestOf}
 use Rattle.elements.specs.Elements.{elementListed}
 use Rattle.elements.proofs.CodeLaws.{listed-row}
-use Rattle.table.specs.declared.Row.{Row}
+use Rattle.row.specs.declared.Row.{Row}
 use Rattle.table.specs.Table.{rowOr, soundTable}
 use Rattle.rates.specs.declared.Figure.the-variants.{Is}
 use Rattle.rates.specs.Rates.{rowAt}

@@ -1,7 +1,7 @@
 -- Past the end of the rows there is none, and before it the row that is read. Assumes nothing.
 use mathlib.Core.Path.{sym, _∙_}
 use lib.ListN.{List·getD-eq-default}
-use Rattle.table.specs.Table.{noRow}
+use Rattle.row.specs.Row.{noRow}
 use borrow.Author.Needs.{needs}
 use Rattle.table.proofs.row_at.Statement.{statement}
 use Rattle.table.proofs.row_at.Tie as tie

@@ -5,7 +5,7 @@ use mathlib.Core.Bool.{_&&_}
 use lib.ListN.{length, drop}
 use Rattle.base.specs.Lists.{every}
 use Rattle.base.proofs.ListLaws.{every-more, every-ends}
-use Rattle.table.specs.Table.{noRow, rowWithin}
+use Rattle.row.specs.Row.{noRow, rowWithin}
 use borrow.Author.Needs.{needs}
 use Rattle.table.proofs.rows_within.Statement.{statement}
 use Rattle.table.proofs.rows_within.Tie as tie

@@ -5,7 +5,8 @@ use borrow.Author.Tests.{not-true, not-false}
 use Rattle.wire.specs.Frame.{framed, kindOf}
 use Rattle.elements.specs.Elements.{rowOf}
 use Rattle.table.specs.Table.{rowOr, soundTable}
-use Rattle.table.specs.Rules.{rowNamed, outageAnswer, stockAnswer}
+use Rattle.filing.specs.Answers.{outageAnswer, stockAnswer}
+use Rattle.table.specs.Rules.{rowNamed}
 use Rattle.table.proofs.ConditionLaws.{says-3}
 use Rattle.table.proofs.AnswerLaws.{sheet-answered, outage-answered, stock-answered}
 use Rattle.table.proofs.ExactlyThen.{exactly-1, exactly-2, exactly-3}

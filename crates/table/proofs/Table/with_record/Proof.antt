@@ -7,10 +7,12 @@ use native.Mathlib.Omega.{arith}
 use Rattle.wire.specs.Frame.{kindOf}
 use Rattle.elements.specs.Elements.{rowOf}
 use Rattle.table.specs.Table.{rowOr}
-use Rattle.table.specs.Fields.{codeIn}
+use Rattle.filing.specs.Fields.{codeIn}
 use Rattle.table.specs.Rules.{rowNamed}
-use Rattle.table.specs.Take.{withOutage, withStock, withRow, acceptedAt}
-use Rattle.table.proofs.BoundLaws.{RowSound, sound-row}
+use Rattle.row.specs.Row.{withOutage, withStock}
+use Rattle.table.specs.Take.{withRow, acceptedAt}
+use Rattle.row.proofs.RowLaws.{RowSound}
+use Rattle.table.proofs.BoundLaws.{sound-row}
 use Rattle.table.proofs.AnswerLaws.{accepted-kind}
 use Rattle.table.proofs.ExactlyThen.{exactly-outage, exactly-stock}
 use borrow.Author.Needs.{needs}

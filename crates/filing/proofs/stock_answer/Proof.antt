@@ -6,10 +6,10 @@ use lib.Dec.{ltb}
 use native.Mathlib.Omega.{arith}
 use borrow.Author.Tests.{eq-eqb, ne-eqb, lt-ltb, le-ltb}
 use Rattle.elements.specs.Elements.{elementListed}
-use Rattle.table.specs.Fields.{codeIn, unitIn}
+use Rattle.filing.specs.Fields.{codeIn, unitIn}
 use borrow.Author.Needs.{needs}
-use Rattle.table.proofs.stock_answer.Statement.{statement}
-use Rattle.table.proofs.stock_answer.Tie as tie
+use Rattle.filing.proofs.stock_answer.Statement.{statement}
+use Rattle.filing.proofs.stock_answer.Tie as tie
 
 -- the test of code and stock byte is that of the two in the bytes
 tested :

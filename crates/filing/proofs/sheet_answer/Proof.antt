@@ -5,8 +5,8 @@ use borrow.Author.Tests.{eq-eqb, ne-eqb}
 use Rattle.fields.specs.Fields.{sheetIn}
 use Rattle.fields.specs.Tests.{inRange}
 use borrow.Author.Needs.{needs}
-use Rattle.table.proofs.sheet_answer.Statement.{statement}
-use Rattle.table.proofs.sheet_answer.Tie as tie
+use Rattle.filing.proofs.sheet_answer.Statement.{statement}
+use Rattle.filing.proofs.sheet_answer.Tie as tie
 
 returns : tie.Need-returns
 returns c = sym (rw (ne-eqb _ _ (c .if1 .taken)))

@@ -6,10 +6,10 @@ use lib.Dec.{ltb}
 use native.Mathlib.Omega.{arith}
 use borrow.Author.Tests.{eq-eqb, ne-eqb, le-leb, lt-leb}
 use Rattle.elements.specs.Elements.{elementListed}
-use Rattle.table.specs.Fields.{codeIn, startIn, endIn}
+use Rattle.filing.specs.Fields.{codeIn, startIn, endIn}
 use borrow.Author.Needs.{needs}
-use Rattle.table.proofs.outage_answer.Statement.{statement}
-use Rattle.table.proofs.outage_answer.Tie as tie
+use Rattle.filing.proofs.outage_answer.Statement.{statement}
+use Rattle.filing.proofs.outage_answer.Tie as tie
 
 -- the test of the code is that of the code in the bytes
 listed : (c : tie.After-is-element) → c .is-element .result ≡ elementListed (codeIn (c .before .before .before .before .before .args .bytes .now))
