@@ -11,7 +11,7 @@ const MOST_PIECES: u64 = 1099511627776;
 // More records than the buffer has room for.
 const MOST_RECORDS: usize = 65536;
 
-// The bytes that wait before they are written out. A comment has at most 129 bytes and a line less than 4,096, so that the buffer has room for one more.
+// The bytes that wait before they are written out. A comment has at most 121 bytes and a line less than 4,096, so that the buffer has room for one more.
 const MOST_WAITING: usize = 61440;
 
 // ---- the page: what is said waits in a buffer
@@ -22,6 +22,7 @@ struct Page {
     lost: bool,
 }
 
+// Writes out the bytes that wait.
 fn write_out(out: &[u8], page: Page) -> Page {
     let written = io::write_all(STDOUT_FILENO, wire::part(out, 0, page.at));
     Page {
@@ -231,7 +232,7 @@ fn take_record(reading: Reading, map: &mut [u8], record: &[u8], out: &mut [u8]) 
     }
 }
 
-// Where the records read so far end.
+// What the records read so far came to, and where they end.
 struct Records {
     reading: Reading,
     stop: usize,
