@@ -1,12 +1,14 @@
--- The calendar there and back: the date of a minute has that minute, and no date has a minute past the year's. Assumes nothing.
+-- The calendar there and back: the date of a minute has that minute, no date has a minute past the year's, and a date that the year has is the date of
+-- its minute. Assumes nothing.
 use Prim.Native.Nat.{ℕ, zero, suc, _+_, _-_, _*_, _/_, _%_, _<_, _≤_}
-use mathlib.Core.Path.{_≡_, refl, _∙_}
+use mathlib.Core.Path.{_≡_, refl, _∙_, ap}
 use mathlib.Core.Bool.{Bool, true, false, cond, false≢true}
 use mathlib.Core.List.{List, [], _∷_}
 use lib.ListN.{length, getD}
 use lib.Dec.{eqb, ltb}
+use native.Mathlib.Nat.{zero-add}
 use native.Mathlib.Omega.{arith}
-use borrow.Author.Tests.{ltb-true, ltb-false, lt-leb, eqb-false}
+use borrow.Author.Tests.{ltb-true, ltb-false, lt-ltb, le-ltb, lt-leb, eqb-false}
 use Rattle.base.proofs.TestLaws.{Tested, holds, fails, test}
 use Rattle.annex.specs.Times.{minutesIn}
 use Rattle.calendar.specs.Calendar.{months, daysIn, monthIn, dayIn, dateOf, daysUpTo, daysBefore, noMinute, minuteOf}
@@ -104,20 +106,95 @@ passed false false true d m e = absurd (false≢true e)
 passed false false false true m e = absurd (false≢true e)
 passed false false false false m e = record { first = refl; second = refl; third = refl; fourth = refl }
 
+-- a month that has a day is not month 0
+month-numbered : (year month day : ℕ) → (day ≡ 0 → ⊥) → day ≤ daysIn year month → month ≡ 0 → ⊥
+unfolding daysIn
+month-numbered year zero day n l e = n (omega arith)
+month-numbered year (suc m) day n l e = omega arith
+
 -- a day of a month is a day of the year
 day-within : (year month day : ℕ) → (day ≡ 0 → ⊥) → day ≤ daysIn year month → daysBefore year month + (day - 1) < daysOf (months year)
 unfolding daysIn daysBefore
-day-within year zero day n l = absurd (n (omega arith))
+day-within year zero day n l = absurd (month-numbered year zero day n l refl)
 day-within year (suc m) zero n l = absurd (n refl)
 day-within year (suc m) (suc k) n l = omega (arith, up-to-with (months year) m, l)
 
+-- what is known of a date that a year has
+record InYear (year : ℕ) (d : Date) : Type 0 where
+  day-from : d .day ≡ 0 → ⊥
+  day-to : d .day ≤ daysIn year (d .month)
+  hour-to : d .hour ≤ 23
+  minute-to : d .minute ≤ 59
+
+in-year : (year : ℕ) (d : Date) → minuteOf year d .there ≡ true → InYear year d
+unfolding minuteOf
+in-year year d e =
+    let p = passed _ _ _ _ _ e in
+    record {
+      day-from = eqb-false (d .day) 0 (p .first);
+      day-to = ltb-false (daysIn year (d .month)) (d .day) (p .second);
+      hour-to = ltb-false 23 (d .hour) (p .third);
+      minute-to = ltb-false 59 (d .minute) (p .fourth);
+    }
+
+abbrev valueOf : ℕ → Date → ℕ
+valueOf year d = (daysBefore year (d .month) + (d .day - 1)) * 1440 + d .hour * 60 + d .minute
+
+in-year-minute : (year : ℕ) (d : Date) → InYear year d → minuteOf year d ≡ record { there = true; value = valueOf year d }
+in-year-minute year d h = minute-there year d (h .day-from) (h .day-to) (h .hour-to) (h .minute-to)
+
 -- what a date has is a minute of the year
 pub minute-within : (year : ℕ) (d : Date) → minuteOf year d .there ≡ true → minuteOf year d .value < minutesIn year
-unfolding minuteOf
 minute-within year d e =
-    let p = passed _ _ _ _ _ e in
-    let n : d .day ≡ 0 → ⊥ = eqb-false (d .day) 0 (p .first) in
-    let a : d .day ≤ daysIn year (d .month) = ltb-false (daysIn year (d .month)) (d .day) (p .second) in
-    let b : d .hour ≤ 23 = ltb-false 23 (d .hour) (p .third) in
-    let l : d .minute ≤ 59 = ltb-false 59 (d .minute) (p .fourth) in
-    rw (minute-there year d n a b l) (omega (arith, year-minutes year, day-within year (d .month) (d .day) n a))
+    let h = in-year year d e in
+    rw (in-year-minute year d h) (
+    omega (arith, year-minutes year, day-within year (d .month) (d .day) (h .day-from) (h .day-to), h .hour-to, h .minute-to)
+    )
+
+-- ---- the way back
+
+-- the k-th day (from 0) of the m-th month (from 0) of some is found in that month, as its day k + 1
+month-back : (ns : List ℕ) (m k : ℕ) → k < getD ns m 0 → monthIn ns (daysUpTo ns (suc m) + k) ≡ suc m
+month-back [] m k l = absurd (omega arith)
+month-back (n ∷ ns) zero k l = rw (zero-add k, lt-ltb k n l)
+month-back (n ∷ ns) (suc m) k l =
+    let e : suc (suc m) - 1 ≡ suc m = omega arith in
+    let p : n ≤ n + daysUpTo ns (suc m) + k = omega arith in
+    let d : n + daysUpTo ns (suc m) + k - n ≡ daysUpTo ns (suc m) + k = omega arith in
+    rw (lt-leb (suc (suc m)) 1 (omega arith), e, le-ltb (n + daysUpTo ns (suc m) + k) n p, d) (ap suc (month-back ns m k l))
+
+day-back : (ns : List ℕ) (m k : ℕ) → k < getD ns m 0 → dayIn ns (daysUpTo ns (suc m) + k) ≡ k + 1
+day-back [] m k l = absurd (omega arith)
+day-back (n ∷ ns) zero k l = rw (zero-add k, lt-ltb k n l)
+day-back (n ∷ ns) (suc m) k l =
+    let e : suc (suc m) - 1 ≡ suc m = omega arith in
+    let p : n ≤ n + daysUpTo ns (suc m) + k = omega arith in
+    let d : n + daysUpTo ns (suc m) + k - n ≡ daysUpTo ns (suc m) + k = omega arith in
+    rw (lt-leb (suc (suc m)) 1 (omega arith), e, le-ltb (n + daysUpTo ns (suc m) + k) n p, d) (day-back ns m k l)
+
+-- the same of a month and a day that a year has
+module _ (year : ℕ) where
+  month-of-day : (month day : ℕ) → (day ≡ 0 → ⊥) → day ≤ daysIn year month → monthIn (months year) (daysBefore year month + (day - 1)) ≡ month
+  unfolding daysIn daysBefore
+  month-of-day zero day n l = absurd (month-numbered year zero day n l refl)
+  month-of-day (suc m) day n l = month-back (months year) m (day - 1) (omega (arith, n, l))
+
+  day-of-day : (month day : ℕ) → (day ≡ 0 → ⊥) → day ≤ daysIn year month → dayIn (months year) (daysBefore year month + (day - 1)) ≡ day
+  unfolding daysIn daysBefore
+  day-of-day zero day n l = absurd (month-numbered year zero day n l refl)
+  day-of-day (suc m) day n l = day-back (months year) m (day - 1) (omega (arith, n, l)) ∙ omega (arith, n)
+
+-- a date that a year has is the date of its minute
+pub minute-date : (year : ℕ) (d : Date) → minuteOf year d .there ≡ true → dateOf year (minuteOf year d .value) ≡ d
+unfolding dateOf
+minute-date year d e =
+    let h = in-year year d e in
+    let b = h .hour-to in
+    let l = h .minute-to in
+    let days : valueOf year d / 1440 ≡ daysBefore year (d .month) + (d .day - 1) = omega arith in
+    let hour : valueOf year d % 1440 / 60 ≡ d .hour = omega arith in
+    let minute : valueOf year d % 60 ≡ d .minute = omega arith in
+    let month : monthIn (months year) (valueOf year d / 1440) ≡ d .month = rw days (month-of-day year (d .month) (d .day) (h .day-from) (h .day-to)) in
+    let day : dayIn (months year) (valueOf year d / 1440) ≡ d .day = rw days (day-of-day year (d .month) (d .day) (h .day-from) (h .day-to)) in
+    ap (λ (m : Minute). dateOf year (m .value)) (in-year-minute year d h) ∙
+    λ i. record { month = month i; day = day i; hour = hour i; minute = minute i }
