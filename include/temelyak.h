@@ -2,6 +2,8 @@
  *
  * Every call but temelyak_built answers a number: 0 where it was accepted, else why it was refused (TEMELYAK_REFUSED_..). On a refusal no lent memory
  * is changed, outputs included. Calls keep nothing between them: ledger, map and desk are the caller's. Any content of lent memory gets an answer.
+ * The three are one state: store them together and restore them together. A desk from before a close beside a ledger from after it counts that outage
+ * twice; a map from before an open lets its number be used again, so that a late step can reach another outage. No call can tell.
  * What is lent to one call does not overlap, and a pointer is to as many elements as the number after it says.
  *
  * Link with libbridge.a, x86-64, and a C library (for memcpy and memset). C99; C++ too.

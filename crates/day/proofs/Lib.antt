@@ -14,3 +14,5 @@ pub mod OneOpen
 pub mod LateReply
 pub mod FoldedDay
 pub mod MarkingNeeded
+pub mod LateFromEmpty
+pub mod RestoredApart

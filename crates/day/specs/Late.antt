@@ -91,6 +91,16 @@ pub record Holding (i : ℕ) (h : Head) (sts : List Step) (d : List Slot) : Type
   pub slot : getD d i freeSlot ≡ steppedAll (openedBy h) sts
   pub head : getD d i freeSlot .head ≡ h
 
+-- among arrivals there is an accepted close of outage v
+pub record WasClosed (v : ℕ) (st : State) (as′ : List Arrival) : Type 0 where
+  pub before : List Arrival
+  pub closing : List ℕ
+  pub later : List Arrival
+  pub split : as′ ≡ before ++ message closing ∷ later
+  pub kind : kindOf closing ≡ 18
+  pub number : numberIn closing ≡ v
+  pub accepted : answerTo (afterAll st before) (message closing) ≡ 0
+
 -- among arrivals there is an accepted open of outage v that is followed by no accepted close of it
 pub record Begun (v : ℕ) (st : State) (as′ : List Arrival) : Type 0 where
   pub before : List Arrival
