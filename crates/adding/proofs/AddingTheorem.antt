@@ -10,12 +10,15 @@ use Rattle.codes.specs.Codes.{rowOf}
 use Rattle.sums.specs.Accepted.{Accepted}
 use Rattle.sums.specs.Theorem.{bookLedger}
 use Rattle.index.specs.declared.Level.{Level}
+use Rattle.index.specs.Sums.{servedOf}
 use Rattle.adding.specs.Parts.{typesIn, rest, eachOnce}
-use Rattle.adding.specs.Adding.{TotalsAre, AddsUp}
+use Rattle.adding.specs.Adding.{TotalsAre, NobodyOff, AddsUp}
 use Rattle.adding.proofs.BookLaws.{book-sound}
 use Rattle.adding.proofs.EventLaws.{events-add}
 use Rattle.adding.proofs.TotalLaws.{levels-add, types-add, rest-adds}
 use Rattle.adding.proofs.IndexLaws.{saifi-adds, saidi-adds}
+use Rattle.adding.proofs.NobodyLaws.{none-off}
+use Rattle.adding.proofs.WeighLaws.{saifi-weighs, saidi-weighs}
 
 -- a set's types are different types of 9.2, and so are 13 to 16
 pub set-once : (set : Set) → eachOnce (typesIn set) ≡ true
@@ -35,6 +38,9 @@ module _ (book : List ℕ) (accepted : Accepted book) where
       let by-events = events-add book accepted level (typesIn set) (set-once set) in
       record { customers = by-types .customers ∙ by-events .customers; halves = by-types .halves ∙ by-events .halves }
 
+  nobody-off : (level : Level) (set : Set) → servedOf (bookLedger book .sheet .totals) level ≡ 0 → NobodyOff (bookLedger book) level set
+  nobody-off level set = none-off book accepted level set (totals-are level set)
+
   pub accepted-book-adds-up : AddsUp book
   accepted-book-adds-up =
       record {
@@ -45,4 +51,7 @@ module _ (book : List ℕ) (accepted : Accepted book) where
         totals = totals-are;
         saifi = saifi-adds (bookLedger book) (book-sound book);
         saidi = saidi-adds (bookLedger book) (book-sound book);
+        nobody-off = nobody-off;
+        saifi-weighs = λ set. saifi-weighs (bookLedger book) (book-sound book) set (λ h. nobody-off h set);
+        saidi-weighs = λ set. saidi-weighs (bookLedger book) (book-sound book) set (λ h. nobody-off h set);
       }

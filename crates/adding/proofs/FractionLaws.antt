@@ -12,6 +12,15 @@ use Rattle.ratio.proofs.Euclid.{lowest-same}
 use Rattle.ratio.proofs.SameLaws.{same-transitive, plus-same}
 use Rattle.adding.specs.Parts.{plusAll}
 
+-- fractions that exist have a sum
+pub all-exist : {A : Type 0} (f : A → Fraction) → ((x : A) → f x .bottom ≡ 0 → ⊥) → (xs : List A) → plusAll (map f xs) .bottom ≡ 0 → ⊥
+all-exist f e [] z = omega (arith, z)
+all-exist f e (x ∷ xs) z =
+    let first : 0 < f x .bottom = omega (arith, e x) in
+    let others : 0 < plusAll (map f xs) .bottom = omega (arith, all-exist f e xs) in
+    let both = mul-pos {m = f x .bottom} {n = plusAll (map f xs) .bottom} first others in
+    omega (arith, both, z)
+
 module _ (n : ℕ) (exists : n ≡ 0 → ⊥) where
   abbrev pub overN : ℕ → Fraction
   overN top = record { top = top; bottom = n }
@@ -30,9 +39,9 @@ module _ (n : ℕ) (exists : n ≡ 0 → ⊥) where
 
   -- one after the other
   pub all-add :
-      (top : ℕ → ℕ) (f : ℕ → Fraction) →
-      ((x : ℕ) → Same (f x) (overN (top x))) →
-      (xs : List ℕ) →
+      {A : Type 0} (top : A → ℕ) (f : A → Fraction) →
+      ((x : A) → Same (f x) (overN (top x))) →
+      (xs : List A) →
       Same (overN (sum (map top xs))) (plusAll (map f xs))
   all-add top f e [] = sym (zero-mul n)
   all-add top f e (x ∷ xs) = values-add (top x) (sum (map top xs)) (f x) (plusAll (map f xs)) (e x) (sym (all-add top f e xs))

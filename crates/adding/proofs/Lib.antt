@@ -5,6 +5,8 @@ pub mod TotalLaws
 pub mod FractionLaws
 pub mod BookLaws
 pub mod IndexLaws
+pub mod NobodyLaws
+pub mod WeighLaws
 pub mod IdentityLaws
 pub mod AddingTheorem
 pub mod YearLaws

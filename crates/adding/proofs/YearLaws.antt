@@ -2,7 +2,7 @@
 -- from the year's bytes. Assumes nothing.
 use Prim.Native.Nat.{ℕ}
 use mathlib.Core.Path.{_≡_, refl, sym, subst}
-use mathlib.Core.List.{List, [], _∷_, map}
+use mathlib.Core.List.{List, [], _∷_, _++_, map}
 use mathlib.Core.Bool.{true}
 use native.Mathlib.Omega.{arith}
 use Rattle.wire.specs.Book.{placeAt}
@@ -34,9 +34,9 @@ use Rattle.index.specs.declared.Index.the-variants.{Saifi, Saidi, Caidi}
 use Rattle.index.specs.declared.Answer.the-variants.{Is}
 use Rattle.index.specs.Sums.{levelSum, totalOf, servedOf}
 use Rattle.index.specs.Index.{indexOf, exactly}
-use Rattle.worked.specs.Worked.{year, sheet105}
-use Rattle.adding.specs.Parts.{typesIn, rest, eventCustomers, eventHalves, aloneOf}
-use Rattle.adding.specs.Adding.{IndexAdds, AddsUp, CaidiApart, Multiplies}
+use Rattle.worked.specs.Worked.{year, sheet105, example105}
+use Rattle.adding.specs.Parts.{typesIn, rest, eventCustomers, eventHalves, aloneOf, shareOf}
+use Rattle.adding.specs.Adding.{IndexAdds, LevelsWeigh, AddsUp, CaidiApart, Multiplies}
 use Rattle.adding.proofs.AddingTheorem.{accepted-book-adds-up}
 
 abbrev cell : ℕ → ℕ → Cell
@@ -147,6 +147,24 @@ year-saifi-adds = year-adds-up .saifi Network network-served
 
 pub year-saidi-adds : IndexAdds (bookLedger year) Saidi Network
 year-saidi-adds = year-adds-up .saidi Network network-served
+
+-- each level's SAIFI times its N, and the network's: 3 x 1000 + 2 x 10 + 1 x 1 = 1007/337 x 1011
+pub year-saifi-weighs : LevelsWeigh (bookLedger year) Saifi All
+year-saifi-weighs = year-adds-up .saifi-weighs All network-served
+
+abbrev weighed : Ledger → Index → List Fraction
+weighed l index = map (shareOf l index All) four
+
+pub year-weighed :
+    (weighed (bookLedger year) Saifi ≡ (over 3000 1 ∷ over 20 1 ∷ over 1 1 ∷ over 1018077 337 ∷ [])) ×
+    (weighed (bookLedger year) Saidi ≡ (over 79000 1 ∷ over 290 1 ∷ over 4 1 ∷ over 80166234 1011 ∷ []))
+unfolding euclid gcdOf lowestOf rowHeld soundLedger levelSum indexOf
+year-weighed = (rw year-is, rw year-is)
+
+-- a level without customers, VVN of example 10.5, adds nothing: 403/75000 x 450000 + 7/500 x 1000 = 304/56375 x 451000
+pub example-weighed : weighed (bookLedger (sheet105 ++ example105)) Saifi ≡ (over 181350000 75000 ∷ over 7000 500 ∷ over 0 1 ∷ over 137104000 56375 ∷ [])
+unfolding cutIn recordsOf rowOf levelOf causes causeListed minutesIn isShort withStep marked marking markedWith eventVerdict answerAt verdictAt recordAnswer verdictOf added soundLedger answerOf ledgerAfter mapAfter takeRecord euclid gcdOf lowestOf rowHeld levelSum indexOf
+example-weighed = refl
 
 -- CAIDI times SAIFI is SAIDI: 79294/3021 times 1007/337 is 79294/1011
 pub year-multiplies : Multiplies (bookLedger year) Network All (over 1007 337) (over 79294 3021)

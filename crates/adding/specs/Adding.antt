@@ -18,7 +18,7 @@ use Rattle.index.specs.declared.Index.the-variants.{Saifi, Saidi, Caidi}
 use Rattle.index.specs.declared.Answer.the-variants.{Is, Refused}
 use Rattle.index.specs.Sums.{totalOf, servedOf}
 use Rattle.index.specs.Index.{formulaOf, indexOf}
-use Rattle.adding.specs.Parts.{overLevels, typesIn, rest, eachOnce, eventCustomers, eventHalves, together, aloneOf, plusAll}
+use Rattle.adding.specs.Parts.{overLevels, typesIn, rest, eachOnce, eventCustomers, eventHalves, together, aloneOf, plusAll, overEach, shareOf}
 
 -- the network's customers, half minutes and N are the levels' together
 pub record LevelsAdd (l : Ledger) (set : Set) : Type 0 where
@@ -58,6 +58,21 @@ pub record IndexAdds (l : Ledger) (index : Index) (level : Level) : Type 0 where
   pub rest-adds : Same all (plus std (aloneOf l index level rest))
   pub types-add : Same all (plusAll (map (λ (typ : ℕ). aloneOf l index level (typ ∷ [])) types))
 
+-- where a level, or the network, has no customers, none were interrupted
+pub record NobodyOff (l : Ledger) (level : Level) (set : Set) : Type 0 where
+  pub customers : totalOf (l .cells) level set .customers .0 ≡ 0
+  pub halves : totalOf (l .cells) level set .halves .0 ≡ 0
+
+-- the network's index times the network's N is the sum over the levels of the level's index times the level's N, as exact fractions; the network has the
+-- index, and so has each level with customers
+pub record LevelsWeigh (l : Ledger) (index : Index) (set : Set) : Type 0 where
+  pub network : Fraction
+  pub is-network : indexOf l index Network set ≡ Is network
+  pub of-level : Level → Fraction
+  pub is-level : (level : Level) → (servedOf (l .sheet .totals) level ≡ 0 → ⊥) → indexOf l index level set ≡ Is (of-level level)
+  pub exists : overEach (shareOf l index set) .bottom ≡ 0 → ⊥
+  pub shares-add : Same (shareOf l index set Network) (overEach (shareOf l index set))
+
 -- all of it, of a book
 pub record AddsUp (book : List ℕ) : Type 0 where
   pub levels : (set : Set) → LevelsAdd (bookLedger book) set
@@ -67,6 +82,9 @@ pub record AddsUp (book : List ℕ) : Type 0 where
   pub totals : (level : Level) (set : Set) → TotalsAre book level set
   pub saifi : (level : Level) → (servedOf (bookLedger book .sheet .totals) level ≡ 0 → ⊥) → IndexAdds (bookLedger book) Saifi level
   pub saidi : (level : Level) → (servedOf (bookLedger book .sheet .totals) level ≡ 0 → ⊥) → IndexAdds (bookLedger book) Saidi level
+  pub nobody-off : (level : Level) (set : Set) → servedOf (bookLedger book .sheet .totals) level ≡ 0 → NobodyOff (bookLedger book) level set
+  pub saifi-weighs : (set : Set) → (servedOf (bookLedger book .sheet .totals) Network ≡ 0 → ⊥) → LevelsWeigh (bookLedger book) Saifi set
+  pub saidi-weighs : (set : Set) → (servedOf (bookLedger book .sheet .totals) Network ≡ 0 → ⊥) → LevelsWeigh (bookLedger book) Saidi set
 
 -- CAIDI under 'all' is not CAIDI under 'std' and that of the types 13 to 16 alone, though all three exist
 pub record CaidiApart (l : Ledger) (level : Level) : Type 0 where

@@ -6,7 +6,7 @@ use mathlib.Core.Bool.{Bool, true, _&&_, not}
 use lib.Dec.{ltb}
 use Rattle.base.specs.Lists.{sum, keep, listed}
 use Rattle.ratio.specs.declared.Fraction.{Fraction}
-use Rattle.ratio.specs.Fraction.{whole, plus}
+use Rattle.ratio.specs.Fraction.{whole, plus, times}
 use Rattle.codes.specs.declared.Set.{Set}
 use Rattle.codes.specs.declared.Set.the-variants.{All, Std, Unnamed}
 use Rattle.codes.specs.Codes.{types, compliance, rows, rowOf}
@@ -20,8 +20,10 @@ use Rattle.sums.specs.Accepted.{eventIn}
 use Rattle.index.specs.declared.Level.{Level}
 use Rattle.index.specs.declared.Level.the-variants.{NN, VN, VVN, Network}
 use Rattle.index.specs.declared.Index.{Index}
+use Rattle.index.specs.declared.Answer.{Answer}
+use Rattle.index.specs.declared.Answer.the-variants.{Is, Refused}
 use Rattle.index.specs.Sums.{servedOf}
-use Rattle.index.specs.Index.{topOf, divisorOf, weightOf}
+use Rattle.index.specs.Index.{topOf, divisorOf, weightOf, indexOf}
 
 -- 003, 4.3.2: Σ from h = NN to h = VVN
 abbrev pub overLevels : (Level → ℕ) → ℕ
@@ -91,3 +93,19 @@ aloneOf l index level ts =
 abbrev pub plusAll : List Fraction → Fraction
 plusAll [] = whole 0
 plusAll (f ∷ fs) = plus f (plusAll fs)
+
+-- Σ from h = NN to h = VVN, of fractions
+abbrev pub eachLevel : List Level
+eachLevel = NN ∷ VN ∷ VVN ∷ []
+
+abbrev pub overEach : (Level → Fraction) → Fraction
+overEach f = plusAll (map f eachLevel)
+
+-- an index times N; an index that is refused, as with an N of 0, adds nothing
+abbrev pub timesN : Answer → ℕ → Fraction
+timesN (Is f) n = times f n
+timesN (Refused r) n = whole 0
+
+-- an index of a level, or of the network, times its N
+abbrev pub shareOf : Ledger → Index → Set → Level → Fraction
+shareOf l index set level = timesN (indexOf l index level set) (servedOf (l .sheet .totals) level)

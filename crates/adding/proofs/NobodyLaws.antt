@@ -1,0 +1,225 @@
+-- Where a level has no customers, none of an accepted book's events interrupts any: a count above the level's customers is refused (11), and the sheet is
+-- the same from the first event on. Assumes nothing.
+use Prim.Native.Nat.{ℕ, _+_, _<_, _≤_}
+use mathlib.Core.Path.{_≡_, refl, sym, ap, subst, _∙_}
+use mathlib.Core.Logic.{_⊎_, inl, inr, ⊎-elim}
+use mathlib.Core.List.{List, [], _∷_, map}
+use mathlib.Core.Bool.{Bool, true, false, _&&_, _||_, not, cond, true≢false}
+use lib.ListN.{length, getD}
+use lib.Dec.{eqb, ltb}
+use native.Mathlib.Omega.{arith}
+use borrow.Author.Tests.{eqb-true, eqb-false, eq-eqb, ltb-false, not-false}
+use Rattle.base.specs.Lists.{All, any, keep, largest, sum}
+use Rattle.base.proofs.ChainLaws.{each-fails}
+use Rattle.base.proofs.TestLaws.{Tested, holds, fails, test, or-left, or-right}
+use Rattle.wire.specs.Frame.{kindOf}
+use Rattle.wire.specs.Cut.{recordsOf}
+use Rattle.codes.specs.declared.Set.{Set}
+use Rattle.annex.specs.declared.Simple.{Simple}
+use Rattle.annex.specs.declared.Step.{Step}
+use Rattle.annex.specs.Annex.{Event, simple, stepped, countsOf, weighed, njh, njhtjh2}
+use Rattle.annex.proofs.FoldLaws.{each-level}
+use Rattle.marks.specs.Marks.{mapSize}
+use Rattle.fields.specs.declared.Sheet.{Sheet}
+use Rattle.fields.specs.Fields.{headIn, simpleIn, stepsIn}
+use Rattle.limits.specs.Limits.{exceeding}
+use Rattle.record.specs.Rules.{sheetMissingOrSecond, countTooLarge}
+use Rattle.record.proofs.FairLaws.{kind-taken}
+use Rattle.ledger.specs.declared.Ledger.{Ledger}
+use Rattle.ledger.specs.Ledger.{emptyLedger, added}
+use Rattle.ledger.specs.Sound.{soundLedger}
+use Rattle.ledger.specs.Take.{answerOf, ledgerAfter}
+use Rattle.ledger.proofs.TakeLaws.{accepted-sound, accepted-adds, refused-hands-back}
+use Rattle.ledger.proofs.SoundLaws.{verdict-fits}
+use Rattle.ledger.proofs.ExactlyThen.{exactly-0}
+use Rattle.book.specs.Book.{State, starting, takeRecord, takeAll}
+use Rattle.sums.specs.Accepted.{zeroMap, Accepted, eventIn, acceptedEvents}
+use Rattle.sums.specs.Theorem.{eventsOf, bookLedger}
+use Rattle.sums.proofs.AnnexTheorem.{accepted-book-adds}
+use Rattle.index.specs.declared.Level.{Level}
+use Rattle.index.specs.declared.Level.the-variants.{NN, VN, VVN, Network}
+use Rattle.index.specs.Sums.{servedOf}
+use Rattle.adding.specs.Parts.{typesIn, counted, eventCustomers, eventHalves}
+use Rattle.adding.specs.Adding.{TotalsAre, NobodyOff}
+
+-- ---- one event
+
+-- an event interrupts nobody of level h
+record None (h : ℕ) (e : Event) : Type 0 where
+  customers : njh h e ≡ 0
+  halves : njhtjh2 h e ≡ 0
+
+module _ (totals : List ℕ) (h : ℕ) (b : h < 3) (z : getD totals h 0 ≡ 0) where
+  -- counts that do not exceed the levels' customers
+  no-count : (counts : List ℕ) → exceeding totals counts ≡ false → getD counts h 0 ≡ 0
+  no-count counts e = let l : getD counts h 0 ≤ getD totals h 0 = within h b in omega arith
+    where
+      k : All (λ b. b ≡ false) (ltb (getD totals 0 0) (getD counts 0 0) ∷ ltb (getD totals 1 0) (getD counts 1 0) ∷ ltb (getD totals 2 0) (getD counts 2 0) ∷ [])
+      k =
+          each-fails
+          (ltb (getD totals 0 0) (getD counts 0 0))
+          (ltb (getD totals 1 0) (getD counts 1 0) ∷ ltb (getD totals 2 0) (getD counts 2 0) ∷ [])
+          e
+
+      within : (h : ℕ) → h < 3 → getD counts h 0 ≤ getD totals h 0
+      within =
+          each-level (λ h. getD counts h 0 ≤ getD totals h 0) (ltb-false _ _ (k .0)) (ltb-false _ _ (k .1 .0)) (ltb-false _ _ (k .1 .1 .0))
+
+  simple-none : (e : Simple) → (exceeding totals (e .n1) || exceeding totals (e .n2)) ≡ false → None h (simple e)
+  unfolding njh njhtjh2
+  simple-none e c =
+      let first : getD (e .n1) h 0 ≡ 0 = no-count (e .n1) (or-left (exceeding totals (e .n1)) (exceeding totals (e .n2)) c) in
+      let second : getD (e .n2) h 0 ≡ 0 = no-count (e .n2) (or-right (exceeding totals (e .n1)) (exceeding totals (e .n2)) c) in
+      record { customers = first; halves = rw (first, second) (omega arith) }
+
+  steps-none :
+      (ss : List Step) →
+      any (λ (st : Step). exceeding totals (st .counts)) ss ≡ false →
+      (largest (countsOf h ss) ≡ 0) × ((before : ℕ) → weighed h before ss ≡ 0)
+  steps-none [] c = (refl, λ before. refl)
+  steps-none (st ∷ ss) c =
+      let rest = any (λ (st : Step). exceeding totals (st .counts)) ss in
+      let here : getD (st .counts) h 0 ≡ 0 = no-count (st .counts) (or-left (exceeding totals (st .counts)) rest c) in
+      let later = steps-none ss (or-right (exceeding totals (st .counts)) rest c) in
+      (omega (arith, here, later .0), λ before. rw here (omega (arith, later .1 (st .time))))
+
+  stepped-none : (t0 : ℕ) (ss : List Step) → any (λ (st : Step). exceeding totals (st .counts)) ss ≡ false → None h (stepped t0 ss)
+  unfolding njh njhtjh2
+  stepped-none t0 ss c = let n = steps-none ss c in record { customers = n .0; halves = omega (arith, n .1 t0) }
+
+-- an accepted event has a sheet, and interrupts nobody of a level without customers
+module _ (l : Ledger) (m s : List ℕ) (a : answerOf l m s ≡ 0) (k : eqb (kindOf s) 1 ≡ false) where
+  by-kind : (P : Type 0) → (kindOf s ≡ 2 → P) → (kindOf s ≡ 3 → P) → P
+  by-kind P two three = go (kind-taken (kindOf s) (exactly-0 l m s .0 a .1 .1 .0))
+    where
+      go : (kindOf s ≡ 1) ⊎ ((kindOf s ≡ 2) ⊎ (kindOf s ≡ 3)) → P
+      go (inl e) = absurd (true≢false (sym (eq-eqb (kindOf s) 1 e) ∙ k))
+      go (inr (inl e)) = two e
+      go (inr (inr e)) = three e
+
+  sheet-there : l .sheet .there ≡ true
+  sheet-there =
+      by-kind (l .sheet .there ≡ true)
+      (λ e. not-false (l .sheet .there) (subst (λ n. sheetMissingOrSecond n (l .sheet) ≡ false) e missing))
+      (λ e. not-false (l .sheet .there) (subst (λ n. sheetMissingOrSecond n (l .sheet) ≡ false) e missing))
+    where
+      missing : sheetMissingOrSecond (kindOf s) (l .sheet) ≡ false
+      missing = exactly-0 l m s .0 a .1 .1 .1 .1 .0
+
+  event-none : (h : ℕ) → h < 3 → getD (l .sheet .totals) h 0 ≡ 0 → None h (eventIn s)
+  event-none h b z =
+      by-kind (None h (eventIn s))
+      (λ e.
+      subst (λ n. None h (event n)) (sym e)
+      (simple-none (l .sheet .totals) h b z (simpleIn s) (subst (λ n. countTooLarge n s (l .sheet) ≡ false) e large)))
+      (λ e.
+      subst (λ n. None h (event n)) (sym e)
+      (stepped-none (l .sheet .totals) h b z (headIn s .t0) (stepsIn s) (subst (λ n. countTooLarge n s (l .sheet) ≡ false) e large)))
+    where
+      event : ℕ → Event
+      event kind = cond (eqb kind 2) (simple (simpleIn s)) (stepped (headIn s .t0) (stepsIn s))
+
+      large : countTooLarge (kindOf s) s (l .sheet) ≡ false
+      large = exactly-0 l m s .0 a .1 .1 .1 .1 .1 .1 .1 .1 .0
+
+-- ---- a book's events, under one sheet
+
+-- a sheet that is there stays the same, by one record and by all
+record-keeps : (l : Ledger) (m s : List ℕ) → l .sheet .there ≡ true → ledgerAfter l m s .sheet ≡ l .sheet
+unfolding added
+record-keeps l m s t = go (test (eqb (answerOf l m s) 0))
+  where
+    go : Tested (eqb (answerOf l m s) 0) → ledgerAfter l m s .sheet ≡ l .sheet
+    go (holds e) =
+        ⊎-elim
+        (λ same. ap (λ (n : Ledger). n .sheet) (accepted-adds l m s a .0) ∙ same .0)
+        (λ first. absurd (true≢false (sym t ∙ first .0)))
+        (verdict-fits l m s sound .fair .goes-on)
+      where
+        a : answerOf l m s ≡ 0
+        a = eqb-true _ _ e
+
+        sound : soundLedger l ≡ true
+        sound = not-false (soundLedger l) (or-right (not (eqb (length m) mapSize)) (not (soundLedger l)) (accepted-sound l m s a))
+    go (fails e) = ap (λ (n : Ledger). n .sheet) (refused-hands-back l m s (eqb-false _ _ e) .0)
+
+sheet-kept : (st : State) (ss : List (List ℕ)) → st .ledger .sheet .there ≡ true → takeAll st ss .ledger .sheet ≡ st .ledger .sheet
+unfolding takeRecord
+sheet-kept st [] t = refl
+sheet-kept st (s ∷ ss) t =
+    let one = record-keeps (st .ledger) (st .map) s t in
+    sheet-kept (takeRecord st s) ss (ap (λ (sheet : Sheet). sheet .there) one ∙ t) ∙ one
+
+-- of all the accepted events, by the customers of the last sheet
+none-among :
+    (h : ℕ) →
+    h < 3 →
+    (st : State) (ss : List (List ℕ)) →
+    getD (takeAll st ss .ledger .sheet .totals) h 0 ≡ 0 →
+    All (λ (s : List ℕ). None h (eventIn s)) (acceptedEvents st ss)
+none-among h b st [] z = tt
+none-among h b st (s ∷ ss) z =
+    go (test (eqb (answerOf (st .ledger) (st .map) s) 0)) (test (eqb (kindOf s) 1)) (none-among h b (takeRecord st s) ss z)
+  where
+    others : List (List ℕ)
+    others = acceptedEvents (takeRecord st s) ss
+
+    Nones : List (List ℕ) → Type 0
+    Nones es = All (λ (s : List ℕ). None h (eventIn s)) es
+
+    go :
+        Tested (eqb (answerOf (st .ledger) (st .map) s) 0) →
+        Tested (eqb (kindOf s) 1) →
+        Nones others →
+        Nones (cond (eqb (answerOf (st .ledger) (st .map) s) 0 && not (eqb (kindOf s) 1)) (s ∷ others) others)
+    go (fails e) k n = rw e n
+    go (holds e) (holds k) n = rw (e, k) n
+    go (holds e) (fails k) n =
+        let a : answerOf (st .ledger) (st .map) s ≡ 0 = eqb-true _ _ e in
+        let same = sheet-kept st (s ∷ ss) (sheet-there (st .ledger) (st .map) s a k) in
+        rw (e, k) (
+          event-none (st .ledger) (st .map) s a k h b (subst (λ (sheet : Sheet). getD (sheet .totals) h 0 ≡ 0) same z),
+          n,
+        )
+
+-- a sum of nothing
+sum-none : {A : Type 0} (P : A → Type 0) (v : A → ℕ) (f : A → Bool) → ((x : A) → P x → v x ≡ 0) → (xs : List A) → All P xs → sum (map v (keep f xs)) ≡ 0
+sum-none P v f e [] n = refl
+sum-none P v f e (x ∷ xs) n = go (f x) (sum-none P v f e xs (n .1))
+  where
+    go : (t : Bool) → sum (map v (keep f xs)) ≡ 0 → sum (map v (cond t (x ∷ keep f xs) (keep f xs))) ≡ 0
+    go true r = omega (arith, e x (n .0), r)
+    go false r = r
+
+module _ (book : List ℕ) (accepted : Accepted book) where
+  module _ (h : ℕ) (b : h < 3) (z : getD (bookLedger book .sheet .totals) h 0 ≡ 0) where
+    nones : All (λ (s : List ℕ). None h (eventIn s)) (eventsOf book)
+    nones =
+        subst (All (λ (s : List ℕ). None h (eventIn s))) (accepted-book-adds book accepted .all)
+        (none-among h b (starting emptyLedger zeroMap) (recordsOf book) z)
+
+    no-customers : (ts : List ℕ) → sum (map (λ (s : List ℕ). njh h (eventIn s)) (counted ts (eventsOf book))) ≡ 0
+    no-customers ts = sum-none (λ (s : List ℕ). None h (eventIn s)) (λ (s : List ℕ). njh h (eventIn s)) _ (λ s n. n .customers) (eventsOf book) nones
+
+    no-halves : (ts : List ℕ) → sum (map (λ (s : List ℕ). njhtjh2 h (eventIn s)) (counted ts (eventsOf book))) ≡ 0
+    no-halves ts = sum-none (λ (s : List ℕ). None h (eventIn s)) (λ (s : List ℕ). njhtjh2 h (eventIn s)) _ (λ s n. n .halves) (eventsOf book) nones
+
+  no-events-off :
+      (level : Level) (ts : List ℕ) →
+      servedOf (bookLedger book .sheet .totals) level ≡ 0 →
+      (eventCustomers ts level (eventsOf book) ≡ 0) × (eventHalves ts level (eventsOf book) ≡ 0)
+  no-events-off NN ts z = (no-customers 0 (omega arith) z ts, no-halves 0 (omega arith) z ts)
+  no-events-off VN ts z = (no-customers 1 (omega arith) z ts, no-halves 1 (omega arith) z ts)
+  no-events-off VVN ts z = (no-customers 2 (omega arith) z ts, no-halves 2 (omega arith) z ts)
+  no-events-off Network ts z =
+      let nn : getD (bookLedger book .sheet .totals) 0 0 ≡ 0 = omega arith in
+      let vn : getD (bookLedger book .sheet .totals) 1 0 ≡ 0 = omega arith in
+      let vvn : getD (bookLedger book .sheet .totals) 2 0 ≡ 0 = omega arith in (
+        λ i. no-customers 0 (omega arith) nn ts i + no-customers 1 (omega arith) vn ts i + no-customers 2 (omega arith) vvn ts i,
+        λ i. no-halves 0 (omega arith) nn ts i + no-halves 1 (omega arith) vn ts i + no-halves 2 (omega arith) vvn ts i,
+      )
+
+  pub none-off : (level : Level) (set : Set) → TotalsAre book level set → servedOf (bookLedger book .sheet .totals) level ≡ 0 → NobodyOff (bookLedger book) level set
+  none-off level set are z =
+      let none = no-events-off level (typesIn set) z in
+      record { customers = are .customers ∙ none .0; halves = are .halves ∙ none .1 }
