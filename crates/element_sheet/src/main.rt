@@ -351,6 +351,13 @@ fn take_files(table: Table) -> Whole {
 
 // ---- the sheet
 
+// The first line: what each column is.
+fn print_heading() {
+    let text = listing::heading();
+    let bytes = text.bytes;
+    io::write_all(STDOUT_FILENO, wire::part(&bytes, 0, text.len));
+}
+
 fn print_row(table: Table, row: usize) {
     let offsets = OFFSETS;
     if 62 <= row {
@@ -448,6 +455,7 @@ fn main() {
         return;
     }
     let refused = whole.refused;
+    print_heading();
     print_rows(whole.table);
     print_refused(refused, whole.count);
 }

@@ -4,7 +4,9 @@ use mathlib.Core.Path.{_≡_, refl, ap, _∙_}
 use mathlib.Core.Bool.{true, false}
 use mathlib.Core.List.{List, [], _∷_, _++_}
 use lib.ListN.{length, length-append}
+use lib.Dec.{eqb}
 use native.Mathlib.Omega.{arith}
+use Rattle.base.proofs.TestLaws.{Tested, holds, fails, test}
 use Rattle.decimal.specs.declared.Shown.{Shown}
 use Rattle.decimal.specs.declared.Shown.the-variants as shown
 use Rattle.elements.specs.Elements.{elementListed}
@@ -16,7 +18,7 @@ use Rattle.rates.specs.Rates.{rowAt, rateOf, meanOf, shownRate, shownMean}
 use Rattle.text.specs.declared.Text.{Text}
 use Rattle.text.specs.Text.{textOf, pushed, pushedAll, numberText, twoText}
 use Rattle.text.proofs.TextLaws.{pushed-all-append, all-fits, number-length}
-use Rattle.listing.specs.Listing.{fractionText, sixText, lineText, lineOf}
+use Rattle.listing.specs.Listing.{fractionText, sixText, perText, lineText, lineOf, headingText}
 
 module _ (t : Table) (code : ℕ) (name : List ℕ) where
   pub unsound-no-line : soundTable t ≡ false → lineOf t code name ≡ record { answer = 1; text = textOf [] }
@@ -34,11 +36,11 @@ module _ (t : Table) (code : ℕ) (name : List ℕ) where
 
 -- parts, each pushed after the one before, are pushed as one
 pub parts-pushed :
-    (code name outages rate mean : List ℕ) {r₁ r₂ r₃ r₄ r₅ r₆ r₇ r₈ : Text} →
-    r₁ ≡ pushedAll (textOf []) code → r₂ ≡ pushed r₁ 9 → r₃ ≡ pushedAll r₂ name → r₄ ≡ pushed r₃ 9 →
-    r₅ ≡ pushedAll r₄ outages → r₆ ≡ pushedAll r₅ rate → r₇ ≡ pushedAll r₆ mean → r₈ ≡ pushed r₇ 10 →
-    r₈ ≡ pushedAll (textOf []) (code ++ (9 ∷ name) ++ (9 ∷ outages) ++ rate ++ mean ++ (10 ∷ []))
-parts-pushed code name outages rate mean p₁ p₂ p₃ p₄ p₅ p₆ p₇ p₈ = simp (pushed-all-append, p₈, p₇, p₆, p₅, p₄, p₃, p₂, p₁)
+    (code name outages per rate mean : List ℕ) {r₁ r₂ r₃ r₄ r₅ r₆ r₇ r₈ r₉ r₁₀ : Text} →
+    r₁ ≡ pushedAll (textOf []) code → r₂ ≡ pushed r₁ 9 → r₃ ≡ pushedAll r₂ name → r₄ ≡ pushed r₃ 9 → r₅ ≡ pushedAll r₄ outages →
+    r₆ ≡ pushed r₅ 9 → r₇ ≡ pushedAll r₆ per → r₈ ≡ pushedAll r₇ rate → r₉ ≡ pushedAll r₈ mean → r₁₀ ≡ pushed r₉ 10 →
+    r₁₀ ≡ pushedAll (textOf []) (code ++ (9 ∷ name) ++ (9 ∷ outages) ++ (9 ∷ per) ++ rate ++ mean ++ (10 ∷ []))
+parts-pushed code name outages per rate mean p₁ p₂ p₃ p₄ p₅ p₆ p₇ p₈ p₉ p₁₀ = simp (pushed-all-append, p₁₀, p₉, p₈, p₇, p₆, p₅, p₄, p₃, p₂, p₁)
 
 -- lengths add up
 both-short : (a b : List ℕ) {m n : ℕ} → length a ≤ m → length b ≤ n → length (a ++ b) ≤ m + n
@@ -55,12 +57,21 @@ six-length (shown.Is d) =
     both-short (numberText (d .whole)) (46 ∷ twoText (d .digits / 10000) ++ twoText (d .digits / 100) ++ twoText (d .digits)) {n = 7} (number-length (d .whole)) (omega arith)
 six-length (shown.Refused n) = omega arith
 
+per-length : (stock : ℕ) → length (perText stock) ≤ 6
+per-length stock = go (test (eqb stock 0)) (test (eqb stock 2))
+  where
+    go : Tested (eqb stock 0) → Tested (eqb stock 2) → length (perText stock) ≤ 6
+    go (holds e) f = rw e (omega arith)
+    go (fails e) (holds f) = rw (e, f) (omega arith)
+    go (fails e) (fails f) = rw (e, f) (omega arith)
+
 -- so no byte of a line is dropped
 module _ (t : Table) (code : ℕ) (name : List ℕ) (short : length name ≤ 100) where
-  pub line-length : length (lineText t code name) ≤ 283
+  pub line-length : length (lineText t code name) ≤ 290
   line-length =
       let c : length (numberText code) ≤ 20 = number-length code in
       let o : length (numberText (rowAt t code .outages)) ≤ 20 = number-length (rowAt t code .outages) in
+      let p : length (perText (rowAt t code .stock)) ≤ 6 = per-length (rowAt t code .stock) in
       let r : length (fractionText (rateOf t code)) ≤ 41 = fraction-length (rateOf t code) in
       let s : length (sixText (shownRate t code 6)) ≤ 27 = six-length (shownRate t code 6) in
       let m : length (fractionText (meanOf t code)) ≤ 41 = fraction-length (meanOf t code) in
@@ -71,3 +82,6 @@ module _ (t : Table) (code : ℕ) (name : List ℕ) (short : length name ≤ 100
   line-fits e f =
       let h = line-length in
       known-line t code name e f ∙ ap (λ (s : Text). record { answer = 0; text = s }) (all-fits (lineText t code name) (omega (arith, h)))
+
+pub heading-fits : pushedAll (textOf []) headingText ≡ textOf headingText
+heading-fits = all-fits headingText (omega arith)

@@ -1,8 +1,10 @@
 -- The element sheet (02, K1): "one line for each of the 62 codes: code, its name in the document's words, outages, rate and mean as exact fractions n/d in
--- lowest terms and as decimals with six digits, - where 17 applies". The parts of a line are parted by tabs, as names have blanks in them.
+-- lowest terms and as decimals with six digits, - where 17 applies". The parts of a line are parted by tabs, as names have blanks in them. Before the rate
+-- stands what it is per, and over the lines what each column is.
 use Prim.Native.Nat.{ℕ, _/_}
 use mathlib.Core.List.{List, [], _∷_, _++_}
 use mathlib.Core.Bool.{not, cond}
+use lib.Dec.{eqb}
 use Rattle.decimal.specs.declared.Shown.{Shown}
 use Rattle.decimal.specs.declared.Shown.the-variants as shown
 use Rattle.elements.specs.Elements.{elementListed}
@@ -28,9 +30,14 @@ sixText (shown.Refused n) = 45 ∷ []
 abbrev pub figureText : Figure → Shown → List ℕ
 figureText f s = 9 ∷ fractionText f ++ (9 ∷ sixText s)
 
+-- what a rate is per: "-" where no stock was told (0), "100 km" of a line (2), "piece"
+abbrev pub perText : ℕ → List ℕ
+perText stock =
+    cond (eqb stock 0) (45 ∷ []) (cond (eqb stock 2) (49 ∷ 48 ∷ 48 ∷ 32 ∷ 107 ∷ 109 ∷ []) (112 ∷ 105 ∷ 101 ∷ 99 ∷ 101 ∷ []))
+
 abbrev pub lineText : Table → ℕ → List ℕ → List ℕ
 lineText t code name =
-    numberText code ++ (9 ∷ name) ++ (9 ∷ numberText (rowAt t code .outages)) ++
+    numberText code ++ (9 ∷ name) ++ (9 ∷ numberText (rowAt t code .outages)) ++ (9 ∷ perText (rowAt t code .stock)) ++
     figureText (rateOf t code) (shownRate t code 6) ++ figureText (meanOf t code) (shownMean t code 6) ++ (10 ∷ [])
 
 -- 1 for an unsound table, 7 for an unknown code: no text then
@@ -39,3 +46,23 @@ lineOf t code name =
     cond (not (soundTable t)) (record { answer = 1; text = textOf [] })
     (cond (not (elementListed code)) (record { answer = 7; text = textOf [] })
     (record { answer = 0; text = pushedAll (textOf []) (lineText t code name) }))
+
+-- the columns, parted by tabs
+abbrev pub headingText : List ℕ
+headingText =
+    -- "code"
+    (99 ∷ 111 ∷ 100 ∷ 101 ∷ []) ++
+    -- "element"
+    (9 ∷ 101 ∷ 108 ∷ 101 ∷ 109 ∷ 101 ∷ 110 ∷ 116 ∷ []) ++
+    -- "outages"
+    (9 ∷ 111 ∷ 117 ∷ 116 ∷ 97 ∷ 103 ∷ 101 ∷ 115 ∷ []) ++
+    -- "per"
+    (9 ∷ 112 ∷ 101 ∷ 114 ∷ []) ++
+    -- "rate"
+    (9 ∷ 114 ∷ 97 ∷ 116 ∷ 101 ∷ []) ++
+    -- "rate, decimal"
+    (9 ∷ 114 ∷ 97 ∷ 116 ∷ 101 ∷ 44 ∷ 32 ∷ 100 ∷ 101 ∷ 99 ∷ 105 ∷ 109 ∷ 97 ∷ 108 ∷ []) ++
+    -- "mean, h"
+    (9 ∷ 109 ∷ 101 ∷ 97 ∷ 110 ∷ 44 ∷ 32 ∷ 104 ∷ []) ++
+    -- "mean, decimal"
+    (9 ∷ 109 ∷ 101 ∷ 97 ∷ 110 ∷ 44 ∷ 32 ∷ 100 ∷ 101 ∷ 99 ∷ 105 ∷ 109 ∷ 97 ∷ 108 ∷ 10 ∷ [])

@@ -1,7 +1,8 @@
-// A line of the element sheet: code, name, outages, the rate and the mean outage, each as an exact fraction and with six digits, parted by tabs.
+// A line of the element sheet: code, name, outages, what the rate is per, the rate and the mean outage, each as an exact fraction and with six digits, parted
+// by tabs; and the heading over the lines.
 ghost use mathlib.Core.Path.{_≡_};
-ghost use Rattle.text.specs.Text.{pushedAll};
-ghost use Rattle.listing.specs.Listing.{fractionText, sixText, figureText, lineText, lineOf};
+ghost use Rattle.text.specs.Text.{textOf, pushedAll};
+ghost use Rattle.listing.specs.Listing.{fractionText, sixText, figureText, perText, lineText, lineOf, headingText};
 use decimal::Shown;
 use rates::Figure;
 use table::Table;
@@ -44,6 +45,19 @@ fn with_figure(t: Text, f: Figure, s: Shown) -> Text
     with_six(with_fraction(t.with_byte(9), f).with_byte(9), s)
 }
 
+// What a rate is per, by the stock's mark: a piece, 100 km of a line, or - where no stock was told.
+fn with_per(t: Text, stock: u8) -> Text
+    ensures { λ r. ⌜ r ≡ pushedAll t (perText stock) ⌝ }
+{
+    if stock == 0 {
+        return t.with_byte(45);
+    }
+    if stock == 2 {
+        return t.with_words(b"100 km");
+    }
+    t.with_words(b"piece")
+}
+
 // The line of a code under a name: 1 for an unsound table, 7 for an unknown code.
 pub fn line_of(table: Table, code: u16, name: &[u8]) -> Line
     ensures { λ r. ⌜ r ≡ lineOf table code (now (name .entry)) ⌝ }
@@ -65,9 +79,10 @@ pub fn line_of(table: Table, code: u16, name: &[u8]) -> Line
     let a = Text::empty().with_number(code as u64).with_byte(9);
     let b = a.with_words(name)
         .with_byte(9)
-        .with_number(row.outages as u64);
+        .with_number(row.outages as u64)
+        .with_byte(9);
     let c = with_figure(
-        b,
+        with_per(b, row.stock),
         rates::rate_of(table, code),
         rates::shown_rate(table, code, 6),
     );
@@ -80,4 +95,13 @@ pub fn line_of(table: Table, code: u16, name: &[u8]) -> Line
         answer: 0,
         text: d.with_byte(10),
     }
+}
+
+// The heading of the sheet: what each column is. Means are in hours.
+pub fn heading() -> Text
+    ensures { λ r. ⌜ r ≡ textOf headingText ⌝ }
+{
+    Text::empty().with_words(
+        b"code\telement\toutages\tper\trate\trate, decimal\tmean, h\tmean, decimal\n",
+    )
 }

@@ -10,7 +10,7 @@ use Rattle.table.specs.Table.{rowOr, soundTable}
 use Rattle.rates.specs.Rates.{rowAt, rateOf, meanOf, shownRate, shownMean}
 use Rattle.text.specs.declared.Text.{Text}
 use Rattle.text.specs.Text.{pushedAll, numberText}
-use Rattle.listing.specs.Listing.{figureText}
+use Rattle.listing.specs.Listing.{figureText, perText}
 use Rattle.listing.proofs.LineLaws.{unsound-no-line, unknown-no-line, known-line, parts-pushed}
 use borrow.Author.Needs.{needs}
 use Rattle.listing.proofs.line_of.Statement.{statement}
@@ -81,6 +81,12 @@ cast-with-number c = search needs
 with-number-requires-2 : tie.Need-with-number-requires-2
 with-number-requires-2 c κs = search needs
 
+with-byte-requires-3 : tie.Need-with-byte-requires-3
+with-byte-requires-3 c κs = search needs
+
+with-per-requires : tie.Need-with-per-requires
+with-per-requires c κs = search needs
+
 rate-of-requires : tie.Need-rate-of-requires
 rate-of-requires c κs = search needs
 
@@ -99,26 +105,28 @@ shown-mean-requires c κs = search needs
 with-figure-requires-2 : tie.Need-with-figure-requires-2
 with-figure-requires-2 c κs = search needs
 
-with-byte-requires-3 : tie.Need-with-byte-requires-3
-with-byte-requires-3 c κs = search needs
+with-byte-requires-4 : tie.Need-with-byte-requires-4
+with-byte-requires-4 c κs = search needs
 
 returns-3 : tie.Need-returns-3
 returns-3 c =
-    let a = c .before .before .before .before .before .before .before .before .before .before .before .before .before .before .before .before .before .before .before .before .before .before .args in
-    let r = c .before .before .before .before .before .before .before .before .before .before .before .before .before .before .before in
+    let a = c .before .before .before .before .before .before .before .before .before .before .before .before .before .before .before .before .before .before .before .before .before .before .before .before .args in
+    let r = c .before .before .before .before .before .before .before .before .before .before .before .before .before .before .before .before .before in
     ap (λ (t : Text). record { answer = 0; text = t })
-    (parts-pushed (numberText (a .code)) (a .name .now) (numberText (rowAt (a .table) (a .code) .outages))
+    (parts-pushed (numberText (a .code)) (a .name .now) (numberText (rowAt (a .table) (a .code) .outages)) (perText (rowAt (a .table) (a .code) .stock))
     (figureText (rateOf (a .table) (a .code)) (shownRate (a .table) (a .code) 6))
     (figureText (meanOf (a .table) (a .code)) (shownMean (a .table) (a .code) 6))
-    (c .before .before .before .before .before .before .before .before .before .before .before .before .with-number .ensures ∙ ap (λ (t : Text). pushedAll t (numberText (a .code))) (c .before .before .before .before .before .before .before .before .before .before .before .before .before .empty3 .ensures))
-    (c .before .before .before .before .before .before .before .before .before .before .before .with-byte .ensures)
-    (c .before .before .before .before .before .before .before .before .before .before .with-words .ensures)
-    (c .before .before .before .before .before .before .before .before .before .with-byte2 .ensures)
-    (c .before .before .before .before .before .before .before .with-number2 .ensures ∙ ap (λ (at : ℕ). pushedAll (c .before .before .before .before .before .before .before .before .before .with-byte2 .result) (numberText (rowOr (a .table .rows) at .outages))) (r .row-of .ensures))
-    (c .before .before .before .before .with-figure .ensures ∙ (λ i. pushedAll (c .before .before .before .before .before .before .before .with-number2 .result) (figureText (c .before .before .before .before .before .before .rate-of .ensures i) (c .before .before .before .before .before .shown-rate .ensures i))))
+    (c .before .before .before .before .before .before .before .before .before .before .before .before .before .before .with-number .ensures ∙ ap (λ (t : Text). pushedAll t (numberText (a .code))) (c .before .before .before .before .before .before .before .before .before .before .before .before .before .before .before .empty3 .ensures))
+    (c .before .before .before .before .before .before .before .before .before .before .before .before .before .with-byte .ensures)
+    (c .before .before .before .before .before .before .before .before .before .before .before .before .with-words .ensures)
+    (c .before .before .before .before .before .before .before .before .before .before .before .with-byte2 .ensures)
+    (c .before .before .before .before .before .before .before .before .before .with-number2 .ensures ∙ ap (λ (at : ℕ). pushedAll (c .before .before .before .before .before .before .before .before .before .before .before .with-byte2 .result) (numberText (rowOr (a .table .rows) at .outages))) (r .row-of .ensures))
+    (c .before .before .before .before .before .before .before .before .with-byte3 .ensures)
+    (c .before .before .before .before .before .before .before .with-per .ensures ∙ ap (λ (at : ℕ). pushedAll (c .before .before .before .before .before .before .before .before .with-byte3 .result) (perText (rowOr (a .table .rows) at .stock))) (r .row-of .ensures))
+    (c .before .before .before .before .with-figure .ensures ∙ (λ i. pushedAll (c .before .before .before .before .before .before .before .with-per .result) (figureText (c .before .before .before .before .before .before .rate-of .ensures i) (c .before .before .before .before .before .shown-rate .ensures i))))
     (c .before .with-figure2 .ensures ∙ (λ i. pushedAll (c .before .before .before .before .with-figure .result) (figureText (c .before .before .before .mean-of .ensures i) (c .before .before .shown-mean .ensures i))))
-    (c .with-byte3 .ensures)) ∙
-    sym (known-line (a .table) (a .code) (a .name .now) (sound (c .before .before .before .before .before .before .before .before .before .before .before .before .before .before .before .before .before .before .before)) (known (c .before .before .before .before .before .before .before .before .before .before .before .before .before .before .before .before .before)))
+    (c .with-byte4 .ensures)) ∙
+    sym (known-line (a .table) (a .code) (a .name .now) (sound (c .before .before .before .before .before .before .before .before .before .before .before .before .before .before .before .before .before .before .before .before .before)) (known (c .before .before .before .before .before .before .before .before .before .before .before .before .before .before .before .before .before .before .before)))
 
 pub line-of-spec : {M : Type 1} → statement M
 line-of-spec =
@@ -140,11 +148,13 @@ line-of-spec =
     with-byte-requires-2
     cast-with-number
     with-number-requires-2
+    with-byte-requires-3
+    with-per-requires
     rate-of-requires
     shown-rate-requires
     with-figure-requires
     mean-of-requires
     shown-mean-requires
     with-figure-requires-2
-    with-byte-requires-3
+    with-byte-requires-4
     returns-3)

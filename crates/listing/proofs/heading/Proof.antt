@@ -1,0 +1,25 @@
+-- The words are those of the definition, and fit an empty text. Assumes nothing.
+use mathlib.Core.Path.{ap, _∙_}
+use Rattle.text.specs.declared.Text.{Text}
+use Rattle.text.specs.Text.{pushedAll}
+use Rattle.listing.specs.Listing.{headingText}
+use Rattle.listing.proofs.LineLaws.{heading-fits}
+use borrow.Author.Needs.{needs}
+use Rattle.listing.proofs.heading.Statement.{statement}
+use Rattle.listing.proofs.heading.Tie as tie
+
+empty-requires : tie.Need-empty-requires
+empty-requires c κs = search needs
+
+slice-aggregate-with-words : tie.Need-slice-aggregate-with-words
+slice-aggregate-with-words c = search needs
+
+with-words-requires : tie.Need-with-words-requires
+with-words-requires c κs = search needs
+
+returns : tie.Need-returns
+returns c = c .with-words .ensures ∙ ap (λ (t : Text). pushedAll t headingText) (c .before .before .empty .ensures) ∙ heading-fits
+
+pub heading-spec : {M : Type 1} → statement M
+heading-spec =
+    tie.close (tie.spec empty-requires slice-aggregate-with-words with-words-requires returns)

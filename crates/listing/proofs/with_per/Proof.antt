@@ -1,0 +1,46 @@
+-- The mark decides the word: none told, a line, and else pieces. Assumes nothing.
+use borrow.Author.Tests.{eq-eqb, ne-eqb}
+use borrow.Author.Needs.{needs}
+use Rattle.listing.proofs.with_per.Statement.{statement}
+use Rattle.listing.proofs.with_per.Tie as tie
+
+with-byte-requires : tie.Need-with-byte-requires
+with-byte-requires c κs = search needs
+
+returns : tie.Need-returns
+returns c = rw (eq-eqb (c .before .before .args .stock) 0 (c .before .if1 .taken)) (c .with-byte .ensures)
+
+slice-aggregate-with-words : tie.Need-slice-aggregate-with-words
+slice-aggregate-with-words c = search needs
+
+with-words-requires : tie.Need-with-words-requires
+with-words-requires c κs = search needs
+
+returns-2 : tie.Need-returns-2
+returns-2 c =
+    let s = c .before .before .before .before .args .stock in
+    rw (ne-eqb s 0 (c .before .before .before .if1 .left), eq-eqb s 2 (c .before .before .if2 .taken)) (c .with-words .ensures)
+
+slice-aggregate-with-words-2 : tie.Need-slice-aggregate-with-words-2
+slice-aggregate-with-words-2 c = search needs
+
+with-words-requires-2 : tie.Need-with-words-requires-2
+with-words-requires-2 c κs = search needs
+
+returns-3 : tie.Need-returns-3
+returns-3 c =
+    let s = c .before .before .before .before .args .stock in
+    rw (ne-eqb s 0 (c .before .before .before .if1 .left), ne-eqb s 2 (c .before .before .if2 .left)) (c .with-words2 .ensures)
+
+pub with-per-spec : {M : Type 1} → statement M
+with-per-spec =
+    tie.close
+    (tie.spec
+    with-byte-requires
+    returns
+    slice-aggregate-with-words
+    with-words-requires
+    returns-2
+    slice-aggregate-with-words-2
+    with-words-requires-2
+    returns-3)
