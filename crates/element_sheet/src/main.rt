@@ -1,10 +1,11 @@
-// The element sheet: an observation period in years and the names of yearly element files as arguments, or one file on standard input; the sheet on
-// standard output.
+// The element sheet: an observation period in years and the names of yearly element files as arguments; the sheet on standard output. The name - means
+// standard input, and so does no name at all. Where a file cannot be opened or read to its end there is no sheet: half of the data must not look like all of it.
 use inflow::Inflow;
 use libc::STDERR_FILENO;
 use libc::STDIN_FILENO;
 use libc::STDOUT_FILENO;
 use table::Table;
+use text::Text;
 
 // More pieces than any file has: 2^40. Past them the reading has failed.
 const MOST_PIECES: u64 = 1099511627776;
@@ -258,7 +259,14 @@ fn take_standard_input(table: Table) -> Taken {
     taken
 }
 
-// The file that an argument names.
+fn is_dash(name: &[u8]) -> bool {
+    if name.len() == 1 {
+        return name[0] == b'-';
+    }
+    false
+}
+
+// The file that an argument names, or standard input where it is -.
 fn take_argument(i: usize, table: Table) -> Taken {
     let mut name = io::buffer();
     let n = os::arg(i, &mut name);
@@ -269,6 +277,9 @@ fn take_argument(i: usize, table: Table) -> Taken {
             refused: 0,
             failed: true,
         };
+    }
+    if is_dash(&name[..n]) {
+        return take_standard_input(table);
     }
     take_named(&name[..n], table)
 }
@@ -349,55 +360,63 @@ fn take_files(table: Table) -> Whole {
     take_arguments(args, table)
 }
 
-// ---- the sheet
+// ---- the sheet; each part answers whether it could be written
 
-// The first line: what each column is.
-fn print_heading() {
-    let text = listing::heading();
+fn print_text(text: Text) -> bool {
     let bytes = text.bytes;
-    io::write_all(STDOUT_FILENO, wire::part(&bytes, 0, text.len));
+    io::write_all(STDOUT_FILENO, wire::part(&bytes, 0, text.len))
 }
 
-fn print_row(table: Table, row: usize) {
+fn print_row(table: Table, row: usize) -> bool {
     let offsets = OFFSETS;
     if 62 <= row {
-        return;
+        return true;
     }
     let name = wire::part(&NAMES, offsets[row], offsets[row + 1]);
     let line = listing::line_of(table, elements::code_at(row), name);
-    let text = line.text;
-    let bytes = text.bytes;
-    io::write_all(STDOUT_FILENO, wire::part(&bytes, 0, text.len));
+    print_text(line.text)
 }
 
-fn print_rows(table: Table) {
+fn print_rows(table: Table) -> bool {
     let mut row: usize = 0;
     while row < 62 {
-        print_row(table, row);
+        if !print_row(table, row) {
+            return false;
+        }
         row += 1;
     }
+    true
 }
 
-fn print_count(n: u64) {
-    io::write_all(STDOUT_FILENO, b" ");
-    io::print_decimal(STDOUT_FILENO, n);
+fn print_count(n: u64) -> bool {
+    io::write_all(STDOUT_FILENO, b" ") && io::print_decimal(STDOUT_FILENO, n)
 }
 
-fn print_counts(refused: [u64; 1024], count: usize) {
+fn print_counts(refused: [u64; 1024], count: usize) -> bool {
     let mut i: usize = 0;
     while i < MOST_FILES {
-        if i < count {
-            print_count(refused[i]);
+        if count <= i {
+            return true;
+        }
+        if !print_count(refused[i]) {
+            return false;
         }
         i += 1;
     }
+    true
 }
 
 // The last line: the refused records of each file.
-fn print_refused(refused: [u64; 1024], count: usize) {
-    io::write_all(STDOUT_FILENO, b"refused");
-    print_counts(refused, count);
-    io::write_all(STDOUT_FILENO, b"\n");
+fn print_refused(refused: [u64; 1024], count: usize) -> bool {
+    io::write_all(STDOUT_FILENO, b"refused")
+        && print_counts(refused, count)
+        && io::write_all(STDOUT_FILENO, b"\n")
+}
+
+// The whole sheet, up to what cannot be written.
+fn print_sheet(whole: Whole) -> bool {
+    let refused = whole.refused;
+    print_text(listing::heading()) && print_rows(whole.table) && print_refused(refused, whole.count)
 }
 
 // ---- the period
@@ -439,23 +458,29 @@ fn period_argument() -> Number {
     number_of(&digits[..n])
 }
 
+fn complain_of_period() {
+    complain(
+        b"the first word",
+        b" is not an observation period: a whole number of years, 1 to 50\n",
+    );
+}
+
 fn main() {
     let period = period_argument();
     if !period.is {
-        complain(b"the period", b" is no number of years\n");
+        complain_of_period();
         return;
     }
     let filed = Table::begin(period.value);
     if filed.answer != 0 {
-        complain(b"the period", b" is not 1 to 50 years\n");
+        complain_of_period();
         return;
     }
     let whole = take_files(filed.table);
     if whole.failed {
         return;
     }
-    let refused = whole.refused;
-    print_heading();
-    print_rows(whole.table);
-    print_refused(refused, whole.count);
+    if !print_sheet(whole) {
+        complain(b"the sheet", b" cannot be written\n");
+    }
 }

@@ -1,4 +1,4 @@
--- Each turn passes one count more. Assumes nothing.
+-- Each turn prints one count more, up to one that cannot be written. Assumes nothing.
 use Prim.Native.Nat.{_-_}
 use borrow.Author.Needs.{needs}
 use Rattle.element_sheet.proofs.print_counts.Statement.{statement}
@@ -13,6 +13,9 @@ abbrev μ-loop : tie.MeasureT-loop
 loop-holds : tie.Need-loop-holds Inv-loop μ-loop
 loop-holds c = search needs
 
+returns : tie.Need-returns Inv-loop μ-loop
+returns c = search needs
+
 mul-print-count : tie.Need-mul-print-count Inv-loop μ-loop
 mul-print-count c = search needs
 
@@ -21,6 +24,9 @@ array-read-print-count c = search needs
 
 print-count-requires : tie.Need-print-count-requires Inv-loop μ-loop
 print-count-requires c κs = search needs
+
+returns-2 : tie.Need-returns-2 Inv-loop μ-loop
+returns-2 c = search needs
 
 add-i : tie.Need-add-i Inv-loop μ-loop
 add-i c = search needs
@@ -31,8 +37,8 @@ loop-less c = search needs
 loop-again : tie.Need-loop-again Inv-loop μ-loop
 loop-again c = search needs
 
-returns : tie.Need-returns Inv-loop μ-loop
-returns c = search needs
+returns-3 : tie.Need-returns-3 Inv-loop μ-loop
+returns-3 c = search needs
 
 pub print-counts-spec : {M : Type 1} → statement M
 print-counts-spec =
@@ -41,10 +47,12 @@ print-counts-spec =
     Inv-loop
     μ-loop
     loop-holds
+    returns
     mul-print-count
     array-read-print-count
     print-count-requires
+    returns-2
     add-i
     loop-less
     loop-again
-    returns)
+    returns-3)

@@ -1,4 +1,4 @@
--- Each turn prints one row more. Assumes nothing.
+-- Each turn prints one row more, up to one that cannot be written. Assumes nothing.
 use Prim.Native.Nat.{_-_}
 use borrow.Author.Needs.{needs}
 use Rattle.element_sheet.proofs.print_rows.Statement.{statement}
@@ -16,6 +16,9 @@ loop-holds c = search needs
 print-row-requires : tie.Need-print-row-requires Inv-loop μ-loop
 print-row-requires c κs = search needs
 
+returns : tie.Need-returns Inv-loop μ-loop
+returns c = search needs
+
 add-row : tie.Need-add-row Inv-loop μ-loop
 add-row c = search needs
 
@@ -25,10 +28,10 @@ loop-less c = search needs
 loop-again : tie.Need-loop-again Inv-loop μ-loop
 loop-again c = search needs
 
-returns : tie.Need-returns Inv-loop μ-loop
-returns c = search needs
+returns-2 : tie.Need-returns-2 Inv-loop μ-loop
+returns-2 c = search needs
 
 pub print-rows-spec : {M : Type 1} → statement M
 print-rows-spec =
     tie.close
-    (tie.spec Inv-loop μ-loop loop-holds print-row-requires add-row loop-less loop-again returns)
+    (tie.spec Inv-loop μ-loop loop-holds print-row-requires returns add-row loop-less loop-again returns-2)
