@@ -1,7 +1,7 @@
--- The three ways of a line; and a line fits its text whatever the table, where the name has at most 100 bytes. Assumes nothing.
+-- The three ways of a line; what a rate is per; and a line fits its text whatever the table, where the name has at most 100 bytes. Assumes nothing.
 use Prim.Native.Nat.{ℕ, _+_, _≤_, _/_}
 use mathlib.Core.Path.{_≡_, refl, ap, _∙_}
-use mathlib.Core.Bool.{true, false}
+use mathlib.Core.Bool.{true, false, cond}
 use mathlib.Core.List.{List, [], _∷_, _++_}
 use lib.ListN.{length, length-append}
 use lib.Dec.{eqb}
@@ -14,11 +14,11 @@ use Rattle.table.specs.declared.Table.{Table}
 use Rattle.table.specs.Table.{soundTable}
 use Rattle.rates.specs.declared.Figure.{Figure}
 use Rattle.rates.specs.declared.Figure.the-variants.{Is, Refused}
-use Rattle.rates.specs.Rates.{rowAt, rateOf, meanOf, shownRate, shownMean}
+use Rattle.rates.specs.Rates.{rowAt, weightOf, rateOf, meanOf, shownRate, shownMean}
 use Rattle.text.specs.declared.Text.{Text}
 use Rattle.text.specs.Text.{textOf, pushed, pushedAll, numberText, twoText}
 use Rattle.text.proofs.TextLaws.{pushed-all-append, all-fits, number-length}
-use Rattle.listing.specs.Listing.{fractionText, sixText, perText, lineText, lineOf, headingText}
+use Rattle.listing.specs.Listing.{fractionText, sixText, pieceWord, hundredWord, perText, lineText, lineOf, headingText}
 
 module _ (t : Table) (code : ℕ) (name : List ℕ) where
   pub unsound-no-line : soundTable t ≡ false → lineOf t code name ≡ record { answer = 1; text = textOf [] }
@@ -41,6 +41,14 @@ pub parts-pushed :
     r₆ ≡ pushed r₅ 9 → r₇ ≡ pushedAll r₆ per → r₈ ≡ pushedAll r₇ rate → r₉ ≡ pushedAll r₈ mean → r₁₀ ≡ pushed r₉ 10 →
     r₁₀ ≡ pushedAll (textOf []) (code ++ (9 ∷ name) ++ (9 ∷ outages) ++ (9 ∷ per) ++ rate ++ mean ++ (10 ∷ []))
 parts-pushed code name outages per rate mean p₁ p₂ p₃ p₄ p₅ p₆ p₇ p₈ p₉ p₁₀ = simp (pushed-all-append, p₁₀, p₉, p₈, p₇, p₆, p₅, p₄, p₃, p₂, p₁)
+
+-- what a rate is said to be per is what its formula weighs by: 1000 x outages over tenths of a kilometre are outages for 100 km
+pub per-as-weighed : (stock : ℕ) → eqb stock 0 ≡ false → perText stock ≡ cond (eqb (weightOf stock) 1000) hundredWord pieceWord
+per-as-weighed stock told = go (test (eqb stock 2))
+  where
+    go : Tested (eqb stock 2) → perText stock ≡ cond (eqb (weightOf stock) 1000) hundredWord pieceWord
+    go (holds e) = rw (told, e) refl
+    go (fails e) = rw (told, e) refl
 
 -- lengths add up
 both-short : (a b : List ℕ) {m n : ℕ} → length a ≤ m → length b ≤ n → length (a ++ b) ≤ m + n

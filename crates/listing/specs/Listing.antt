@@ -30,10 +30,17 @@ sixText (shown.Refused n) = 45 ∷ []
 abbrev pub figureText : Figure → Shown → List ℕ
 figureText f s = 9 ∷ fractionText f ++ (9 ∷ sixText s)
 
--- what a rate is per: "-" where no stock was told (0), "100 km" of a line (2), "piece"
+-- "piece"
+abbrev pub pieceWord : List ℕ
+pieceWord = 112 ∷ 105 ∷ 101 ∷ 99 ∷ 101 ∷ []
+
+-- "100 km"
+abbrev pub hundredWord : List ℕ
+hundredWord = 49 ∷ 48 ∷ 48 ∷ 32 ∷ 107 ∷ 109 ∷ []
+
+-- what a rate is per, by the stock's mark: "-" where none was told (0), 100 km of a line (2), else a piece
 abbrev pub perText : ℕ → List ℕ
-perText stock =
-    cond (eqb stock 0) (45 ∷ []) (cond (eqb stock 2) (49 ∷ 48 ∷ 48 ∷ 32 ∷ 107 ∷ 109 ∷ []) (112 ∷ 105 ∷ 101 ∷ 99 ∷ 101 ∷ []))
+perText stock = cond (eqb stock 0) (45 ∷ []) (cond (eqb stock 2) hundredWord pieceWord)
 
 abbrev pub lineText : Table → ℕ → List ℕ → List ℕ
 lineText t code name =
