@@ -16,3 +16,4 @@ pub mod FoldedDay
 pub mod MarkingNeeded
 pub mod LateFromEmpty
 pub mod RestoredApart
+pub mod FullLedger

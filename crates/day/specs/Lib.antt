@@ -1,3 +1,4 @@
 pub mod Day
 pub mod Story
 pub mod Late
+pub mod Full
