@@ -140,7 +140,7 @@ uint32_t temelyak_take(uint64_t header, uint64_t *ledger, size_t words, uint8_t 
 uint32_t temelyak_take_book(uint64_t header, uint64_t *ledger, size_t words, uint8_t *map, size_t map_bytes, const uint8_t *book, size_t bytes,
                             uint64_t *read, size_t read_words);
 
-/* Serves one message at a desk: kinds 16 (open), 17 (step), 18 (close). */
+/* Serves one message at a desk: kinds 16 (open), 17 (step), 18 (close). Where `slots` is not TEMELYAK_SLOTS the answer is 1, and no slot is looked at. */
 uint32_t temelyak_serve(uint64_t header, uint64_t *ledger, size_t words, uint8_t *map, size_t map_bytes, temelyak_slot *desk, size_t slots,
                         const uint8_t *message, size_t bytes);
 

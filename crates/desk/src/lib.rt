@@ -1,5 +1,5 @@
 // The desk: a lent table of 32 slots, and the one entry for open, step and close. The rules stand in `plan`; here a slot is taken out by value
-// and written back, and no function knows a rule.
+// and written back, and no function knows a rule but how many slots a desk has.
 ghost use mathlib.Core.Path.{_≡_};
 ghost use mathlib.Core.Bool.{true};
 ghost use lib.ListN.{length, getD, set};
@@ -54,10 +54,14 @@ fn planned(desk: &[Slot], ledger: Ledger, map: &[u8], bytes: &[u8]) -> Plan
 }
 
 // One message: the answer number and the next ledger. An accepted open marks its number and takes the free slot of lowest index; an accepted step
-// changes the slot that holds its number; an accepted close adds its event to the ledger and frees its slot.
+// changes the slot that holds its number; an accepted close adds its event to the ledger and frees its slot. A desk that is not 32 slots is refused
+// before a slot is looked at: what it is told to be may be more than there is.
 pub fn serve(ledger: Ledger, map: &mut [u8], desk: &mut [Slot], bytes: &[u8]) -> Taken
     ensures { λ r. ⌜ (r ≡ servedOf ledger (now (map .entry)) (now (desk .entry)) (now (bytes .entry))) × (now (map .exit) ≡ mapServed ledger (now (map .entry)) (now (desk .entry)) (now (bytes .entry))) × (now (desk .exit) ≡ deskServed ledger (now (map .entry)) (now (desk .entry)) (now (bytes .entry))) ⌝ }
 {
+    if desk.len() != roll::SLOTS {
+        return Taken { answer: 1, ledger };
+    }
     let p = planned(desk, ledger, map, bytes);
     slot_put(desk, p.at, p.slot);
     marks::mark(map, p.number);

@@ -3,14 +3,17 @@
 -- Assumes nothing.
 use Prim.Native.Nat.{ℕ}
 use mathlib.Core.Path.{_≡_, refl, sym, _∙_, ap}
+use mathlib.Core.Logic.{_≢_}
 use mathlib.Core.List.{List, _∷_}
 use mathlib.Core.Bool.{Bool, true, false, _&&_, _||_, not, cond, or-true, true≢false}
 use lib.ListN.{length, getD, set}
 use lib.Seq.{set-out}
 use lib.Dec.{eqb}
 use native.Mathlib.Nat.{le-refl}
-use borrow.Author.Tests.{eqb-true}
+use native.Mathlib.Omega.{arith}
+use borrow.Author.Tests.{eqb-true, ne-eqb}
 use Rattle.base.specs.First.{first}
+use Rattle.base.specs.Lists.{every}
 use Rattle.base.proofs.FirstLaws.{clear}
 use Rattle.wire.specs.Frame.{kindOf}
 use Rattle.marks.specs.Marks.{markedWith}
@@ -22,7 +25,7 @@ use Rattle.ledger.specs.Take.{unsound}
 use Rattle.slot.specs.declared.Slot.{Slot}
 use Rattle.slot.specs.Slot.{freeSlot, openedBy, steppedBy}
 use Rattle.slot.specs.Sound.{slotSound}
-use Rattle.roll.specs.Desk.{slotCount, deskSound, placeOf, slotOf}
+use Rattle.roll.specs.Desk.{slotCount, numbersOf, differ, deskSound, placeOf, slotOf}
 use Rattle.roll.specs.Roll.{rollOf, rollSound, numberIn, placeNamed}
 use Rattle.roll.proofs.SearchLaws.{desk-each, desk-slots, sound-at}
 use Rattle.roll.proofs.RollLaws.{roll-is, place-named, place-free}
@@ -30,6 +33,7 @@ use Rattle.plan.specs.declared.Plan.{Plan}
 use Rattle.plan.specs.Rules.{Look, lookAt, lookBy, stepIn, onMessage, kindNotTaken, rulesAt, rules}
 use Rattle.plan.specs.Plan.{refusedPlan, ledgerClosed, acceptedPlan, lookAnswer, planOf, planBy}
 use Rattle.plan.specs.Serve.{messageAnswer, ledgerServed, mapServed, deskServed, servedOf}
+use Rattle.plan.proofs.MessageLaws.{refused-same}
 
 -- ---- what is found of a desk
 
@@ -141,3 +145,27 @@ module _ (l : Ledger) (m : List ℕ) (d : List Slot) (s : List ℕ) where
       (set d (placeOf (numberIn s) d) freeSlot)
       d refl refl refl
       (set-out d (length d) freeSlot (le-refl (length d)))
+
+-- ---- a desk that is not 32 slots
+
+-- it is refused with 1 whatever its slots hold, and ledger, map and desk stay as they were
+module _ (l : Ledger) (m : List ℕ) (d : List Slot) (s : List ℕ) (other : length d ≢ slotCount) where
+  other-unsound : deskSound d ≡ false
+  unfolding deskSound
+  other-unsound = ap (λ t. t && every slotSound d && differ (numbersOf d)) (ne-eqb (length d) slotCount other)
+
+  pub other-answer : messageAnswer l m d s ≡ 1
+  unfolding messageAnswer
+  other-answer = unsound-answer (lookAt d s) l m s other-unsound
+
+  other-same : (ledgerServed l m d s ≡ l) × (mapServed l m d s ≡ m) × (deskServed l m d s ≡ d)
+  other-same = refused-same l m d s (λ z. omega (arith, other-answer))
+
+  pub other-taken : servedOf l m d s ≡ record { answer = 1; ledger = l }
+  other-taken = λ i. record { answer = other-answer i; ledger = other-same .0 i }
+
+  pub other-map : mapServed l m d s ≡ m
+  other-map = other-same .1
+
+  pub other-desk : deskServed l m d s ≡ d
+  other-desk = other-same .2

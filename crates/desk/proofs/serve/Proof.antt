@@ -1,19 +1,21 @@
--- `desk::serve` meets its contract: a walk of its MIR, by hand, of four calls in a row and no branch. All that it knows of the callees is that each meets its contract; what they come to is `plan-taken`, `plan-map` and `plan-desk`.
+-- `desk::serve` meets its contract: a walk of its MIR, by hand, of a branch and four calls in a row. A desk of another length is left as it is (`other-taken`, `other-map`, `other-desk`). All that it knows of the callees is that each meets its contract; what they come to is `plan-taken`, `plan-map` and `plan-desk`.
 -- For `planned` the desk and the map are lent as `&`, each for a lifetime that the walk makes. To `slot_put` and `mark` the two slices go for good, each at its own lifetime, share and ghost name (`gave-slice`). The message is Copy.
 -- Assumes nothing.
 use mathlib.Core.Path.{_≡_, refl, sym, _∙_, ap, subst}
 use Prim.Native.Nat.{ℕ, _<_, _^_}
+use mathlib.Core.Logic.{_≢_}
+use mathlib.Core.Bool.{not}
 use mathlib.Core.List.{List, [], _∷_}
-use lib.Dec.{T}
+use lib.Dec.{T, eqb, lit<}
 use lib.ListN.{length, set}
 use mir.Syntax.{Tys, named, w16, w64, tyInt, tyUnit, tnil, tcons}
 use mir.Val.{Val, WT, hasTy, vint}
 use base.Logic.{SProp, ent, emp, via, fst∗, snd∗, exE, id⊢}
 use base.Fml.{Lft, GName, Share, Fml, ftrue, fat, flft}
-use prog.Wp.{Heap, Calls, Loops, WpFn, Tables}
-use types.Kit.{Given, ‵, raw, _⊛_, some, later, ⋆, _$_, _∵_, !, qed, by, move, drop, group, use0, use1, use2, split, join, pick, rewrite, fsplit, fjoin, feqL, suffices, frame, await, done}
+use prog.Wp.{Heap, Env, Calls, Loops, WpFn, Tables}
+use types.Kit.{Given, ‵, raw, _⊛_, some, later, ⋆, atRet, _$_, _∵_, !, qed, by, move, drop, group, use0, use1, use2, split, join, pick, rewrite, fsplit, fjoin, feqL, suffices, frame, await, done}
 use types.Part.{agg, whole, sub, look-in}
-use types.Run.{look, init, store, forget, stop, hop, fld, from, load, addr, and-then, no-more, assigns, land, returns, enter, alloc1, alloc0, params1, pass1, pass0, free1, free0}
+use types.Run.{look, init, store, forget, stop, hop, fld, from, load, lit, addr, of-opd, bin, and-then, no-more, assigns, land, first, skips, branches, returns-within, returns, exec, enter, alloc1, alloc0, params1, pass1, pass0, free1, free0}
 use types.Tokens.{lft-new, lft-end}
 use denote.Plain.{uint-makes}
 use denote.Builtin.{u8, u16, usize, unit}
@@ -43,17 +45,20 @@ use denote.Triple.Table.{entered, cited}
 use Rattle.marks.specs.Marks.{markedWith}
 use Rattle.ledger.specs.declared.Ledger.{Ledger}
 use Rattle.ledger.specs.declared.Taken.{Taken}
+use Rattle.ledger.proofs.Taken as TTaken
 use Rattle.ledger.proofs.Taken.Laws as TTaken′
 use Rattle.slot.specs.declared.Slot.{Slot}
 use Rattle.slot.proofs.Slot.Laws as TSlot′
+use Rattle.roll.specs.Desk.{slotCount}
 use Rattle.plan.specs.declared.Plan.{Plan}
 use Rattle.plan.specs.Rules.{lookAt}
 use Rattle.plan.specs.Plan.{planOf}
+use Rattle.plan.specs.Serve.{servedOf, mapServed, deskServed}
 use Rattle.plan.proofs.Plan as TPlan
 use Rattle.plan.proofs.Plan.Laws as TPlan′
-use Rattle.plan.proofs.ServeLaws.{plan-taken, plan-map, plan-desk}
-use Rattle.desk.proofs.SlotLaws.{R, vals, slot-makes}
-use Rattle.desk.proofs.Shared.{LentOut, lends-out, out-back}
+use Rattle.plan.proofs.ServeLaws.{plan-taken, plan-map, plan-desk, other-taken, other-map, other-desk}
+use Rattle.desk.proofs.SlotLaws.{R, vals, ty-at, slot-makes}
+use Rattle.desk.proofs.Shared.{LentOut, lends-out, out-back, unused}
 use Rattle.desk.proofs.Rows.{LedgerR, TakenR, PlanR, ledger-mach, ledger-vals, ledger-tells, ledger-makes, ledger-typed, taken-mach, taken-vals, taken-tells, taken-makes, taken-typed, plan-vals, plan-tells, plan-makes, plan-typed}
 use Rattle.desk.proofs.planned as planned
 use Rattle.desk.proofs.planned.Symbol as planned-def
@@ -75,6 +80,7 @@ use Rattle.desk.proofs.serve.Key.{name as #desk·serve}
 use Rattle.desk.proofs.serve as serve
 use Rattle.desk.proofs.serve.Statement as stated
 use Rattle.desk.proofs.serve.Code as code
+use Rattle.desk.proofs.serve.Code.Mir as body
 
 abbrev stayed : Stays (serve.ended .signature .params) (serve.ended .kept)
 stayed = (stay-none (λ _. LedgerR) yes, (gave-slice (0 ∷ []) tt (plain (λ _. u8)), (gave-slice (1 ∷ []) tt (plain (λ _. R)), (stay-none-slice (2 ∷ []) tt (plain (λ _. u8)) yes, tt))))
@@ -149,13 +155,23 @@ module _ {M : Type 1} (𝓤 : URA M) (H : Heap 𝓤) (A : Atoms 𝓤) (W : Given
   abbrev Post : Val → SProp 𝓤
   Post = walkOf 𝓤 H A serve.ended stayed (serve.clauses 𝓤 H A mem run) .post (((κ₀, (κ₁, (κ₂, tt))), (q₀, (q₁, (q₂, tt))), tt, a, at), tt)
 
-  exits : (cs : List ℕ) (zs : List Slot) → cs ≡ markedWith bs (p .number) → zs ≡ set ys (p .at) (p .slot) → length cs ≡ length bs → length zs ≡ length ys → Is TakenR (p .taken) (taken-vals (p .taken))
-      → ent 𝓤 (⋆ 𝓤 H A (‵ (flft κ₀ q₀) ∷ ‵ (flft κ₁ q₁) ∷ ‵ (flft κ₂ q₂) ∷ ‵ (finally u8 γ₀ cs) ∷ ‵ (finally R γ₁ zs) ∷ ‵ Own₂ ∷ [])) (Post (taken-mach (p .taken)))
-  exits cs zs e₀ e₁ n₀ n₁ g =
+  exits : (r : Taken) (cs : List ℕ) (zs : List Slot) → r ≡ servedOf l bs ys (s .now) → cs ≡ mapServed l bs ys (s .now) → zs ≡ deskServed l bs ys (s .now) → length cs ≡ length bs → length zs ≡ length ys → Is TakenR r (taken-vals r)
+      → ent 𝓤 (⋆ 𝓤 H A (‵ (flft κ₀ q₀) ∷ ‵ (flft κ₁ q₁) ∷ ‵ (flft κ₂ q₂) ∷ ‵ (finally u8 γ₀ cs) ∷ ‵ (finally R γ₁ zs) ∷ ‵ Own₂ ∷ [])) (Post (taken-mach r))
+  exits r cs zs e e₀ e₁ n₀ n₁ g =
       qed W (‵ (flft κ₀ q₀) ∷ ‵ (flft κ₁ q₁) ∷ ‵ (flft κ₂ q₂) ∷ ‵ (finally u8 γ₀ cs) ∷ ‵ (finally R γ₁ zs) ∷ ‵ Own₂ ∷ []) ∵
-      suffices ! _ (ends-at 𝓤 H A serve.ended stayed (serve.clauses 𝓤 H A mem run) W (((κ₀, (κ₁, (κ₂, tt))), (q₀, (q₁, (q₂, tt))), tt, a, at), tt) (taken-mach (p .taken)) (p .taken) (tt, (cs, (zs, (tt, tt)))) (tt, (n₀, (n₁, (tt, tt))))) $
-      says ! (plan-taken l bs ys (s .now), e₀ ∙ plan-map l bs ys (s .now), e₁ ∙ plan-desk l bs ys (s .now)) $
-      nothing ! $ move ! (3 ∷ 0 ∷ []) $ join ! $ move ! (2 ∷ 0 ∷ []) $ join ! $ move ! (1 ∷ 0 ∷ []) $ join ! $ frame ! $ nothing ! $ move ! (3 ∷ 0 ∷ []) $ fjoin ! $ move ! (2 ∷ 0 ∷ []) $ fjoin ! $ move ! (1 ∷ 0 ∷ []) $ fjoin ! $ owned ! LedgerR (Is LedgerR) (ledger-makes 𝓤 H A W) l _ gl $ fjoin ! $ frame ! $ owned ! TakenR (Is TakenR) (taken-makes 𝓤 H A W) (p .taken) _ g $ done !
+      suffices ! _ (ends-at 𝓤 H A serve.ended stayed (serve.clauses 𝓤 H A mem run) W (((κ₀, (κ₁, (κ₂, tt))), (q₀, (q₁, (q₂, tt))), tt, a, at), tt) (taken-mach r) r (tt, (cs, (zs, (tt, tt)))) (tt, (n₀, (n₁, (tt, tt))))) $
+      says ! (e, e₀, e₁) $
+      nothing ! $ move ! (3 ∷ 0 ∷ []) $ join ! $ move ! (2 ∷ 0 ∷ []) $ join ! $ move ! (1 ∷ 0 ∷ []) $ join ! $ frame ! $ nothing ! $ move ! (3 ∷ 0 ∷ []) $ fjoin ! $ move ! (2 ∷ 0 ∷ []) $ fjoin ! $ move ! (1 ∷ 0 ∷ []) $ fjoin ! $ owned ! LedgerR (Is LedgerR) (ledger-makes 𝓤 H A W) l _ gl $ fjoin ! $ frame ! $ owned ! TakenR (Is TakenR) (taken-makes 𝓤 H A W) r _ g $ done !
+
+  -- what a desk of another length is answered
+  abbrev refusal : Taken
+  refusal = record { answer = 1; ledger = l }
+
+  refusal-is : Is TakenR refusal (taken-vals refusal)
+  refusal-is = LL.owes TTaken.the-type TTaken′.the-laws refusal ((refl, lit< tt), (gl, tt))
+
+  not-slots : T (not (eqb (length ys) slotCount)) → length ys ≢ slotCount
+  not-slots other e = subst (λ (n : ℕ). T (not (eqb n slotCount))) e other
 
   -- what each callee's triple binds outside, and that the caller has what it asks
   abbrev to-planned : ℕ → GName → ℕ → GName → Planned 𝓤 H A mem run .Ghost
@@ -186,57 +202,75 @@ module _ {M : Type 1} (𝓤 : URA M) (H : Heap 𝓤) (A : Atoms 𝓤) (W : Given
   goes-taken-by g =
       qed W [] ∵ nothing ! $ nothing ! $ owned ! PlanR (Is PlanR) (plan-makes 𝓤 H A W) p _ g $ fjoin ! $ move ! (1 ∷ 0 ∷ []) $ join ! $ frame ! $ done !
 
+  -- the locals
+  abbrev E : ℕ → ℕ → ℕ → ℕ → ℕ → ℕ → ℕ → ℕ → ℕ → ℕ → ℕ → ℕ → ℕ → ℕ → ℕ → ℕ → ℕ → Env 𝓤 H
+  E l₀ l₁ l₂ l₃ l₄ l₅ l₆ l₇ l₈ l₉ l₁₀ l₁₁ l₁₂ l₁₃ l₁₄ l₁₅ l₁₆ =
+      (ty-at 0 body.locals, l₀) ∷ (ty-at 1 body.locals, l₁) ∷ (ty-at 2 body.locals, l₂) ∷ (ty-at 3 body.locals, l₃) ∷ (ty-at 4 body.locals, l₄) ∷ (ty-at 5 body.locals, l₅) ∷ (ty-at 6 body.locals, l₆) ∷ (ty-at 7 body.locals, l₇) ∷ (ty-at 8 body.locals, l₈) ∷ (ty-at 9 body.locals, l₉) ∷ (ty-at 10 body.locals, l₁₀) ∷ (ty-at 11 body.locals, l₁₁) ∷ (ty-at 12 body.locals, l₁₂) ∷ (ty-at 13 body.locals, l₁₃) ∷ (ty-at 14 body.locals, l₁₄) ∷ (ty-at 15 body.locals, l₁₅) ∷ (ty-at 16 body.locals, l₁₆) ∷ []
+
   module _ (C : Calls 𝓤 H) (Λ : Loops 𝓤 H) (fm : FmC 𝓤 H (W .laws) C) (known-planned : Triple 𝓤 (C #desk·planned) (Planned 𝓤 H A mem run)) (known-slot-put : Triple 𝓤 (C #desk·slot-put) (SlotPut 𝓤 H A mem run)) (known-mark : Triple 𝓤 (C #marks·mark) (Mark 𝓤 H A mem run)) (known-taken-by : Triple 𝓤 (C #plan·taken-by) (TakenBy 𝓤 H A mem run)) where
     walk : ent 𝓤 (onEntry 𝓤 H A serve.signature (κ₀, (κ₁, (κ₂, tt))) (q₀, (q₁, (q₂, tt))) a at) (WpFn 𝓤 H C Λ code.function (ledger-mach l ∷ v₀ ∷ v₁ ∷ v₂ ∷ []) Post)
     walk =
         qed W ((‵ (flft κ₀ q₀) ⊛ ‵ (flft κ₁ q₁) ⊛ ‵ (flft κ₂ q₂) ⊛ ‵ ftrue) ∷ ‵ (owns (LedgerR ∷ MutSlice (named 0) κ₀ u8 ∷ MutSlice (named 1) κ₁ R ∷ ShrSlice (named 2) κ₂ u8 ∷ []) a at) ∷ []) ∵
         enter ! C Λ code.function (ledger-mach l ∷ v₀ ∷ v₁ ∷ v₂ ∷ []) _ $
-        alloc1 ! (λ l₀. alloc1 ! (λ l₁. alloc1 ! (λ l₂. alloc1 ! (λ l₃. alloc1 ! (λ l₄. alloc1 ! (λ l₅. alloc1 ! (λ l₆. alloc1 ! (λ l₇. alloc1 ! (λ l₈. alloc1 ! (λ l₉. alloc1 ! (λ l₁₀. alloc1 ! (λ l₁₁. alloc1 ! (λ l₁₂. alloc1 ! (λ l₁₃. alloc1 ! (λ l₁₄. alloc0 ! $ params1 ! $
-        pass1 ! (init ! 26 refl (ledger-typed 𝓤 H A W l _ gl)) $ pass1 ! (init ! 24 refl (tt, (tt, (record { fits = room₀ .0 }, tt)))) $ pass1 ! (init ! 22 refl (tt, (tt, (record { fits = room₁ .0 }, tt)))) $ pass1 ! (init ! 20 refl (tt, (tt, (record { fits = room₂ .0 }, tt)))) $ pass0 ! $
-        move ! (31 ∷ []) $ fsplit ! $ drop ! $ fsplit ! $ move ! (1 ∷ []) $ fsplit ! $ move ! (1 ∷ []) $ fsplit ! $ move ! (1 ∷ []) $ drop ! $ move ! (33 ∷ []) $ split ! $ move ! (1 ∷ []) $ split ! $ move ! (1 ∷ []) $ split ! $ move ! (1 ∷ []) $ drop ! $ move ! (2 ∷ 1 ∷ 0 ∷ 5 ∷ 4 ∷ 3 ∷ []) $
-        -- [the three tokens; what map, desk and message own; _14; …; …; _0; …]. `planned`: desk and map are lent as `&` for lifetimes ν₁ and ν₀ of the call
-        assigns ! (addr ! (from ! (fld ! refl (hop ! (look-in ! 28 (sub ! 0 refl (whole !))) (stop !))))) (from ! (stop !)) (init ! 22 refl (tt, tt)) $
-        assigns ! (agg ! (and-then ! (load ! (from ! (stop !)) (look ! 22 refl)) (and-then ! (load ! (from ! (fld ! refl (stop !))) (look-in ! 28 (sub ! 1 refl (whole !)))) (no-more !)))) (from ! (stop !)) (init ! 20 refl (tt, (tt, (record { fits = room₁ .0 }, tt)))) $
-        assigns ! (addr ! (from ! (fld ! refl (hop ! (look-in ! 30 (sub ! 0 refl (whole !))) (stop !))))) (from ! (stop !)) (init ! 18 refl (tt, tt)) $
-        assigns ! (agg ! (and-then ! (load ! (from ! (stop !)) (look ! 18 refl)) (and-then ! (load ! (from ! (fld ! refl (stop !))) (look-in ! 30 (sub ! 1 refl (whole !)))) (no-more !)))) (from ! (stop !)) (init ! 16 refl (tt, (tt, (record { fits = room₀ .0 }, tt)))) $
+        alloc1 ! (λ l₀. alloc1 ! (λ l₁. alloc1 ! (λ l₂. alloc1 ! (λ l₃. alloc1 ! (λ l₄. alloc1 ! (λ l₅. alloc1 ! (λ l₆. alloc1 ! (λ l₇. alloc1 ! (λ l₈. alloc1 ! (λ l₉. alloc1 ! (λ l₁₀. alloc1 ! (λ l₁₁. alloc1 ! (λ l₁₂. alloc1 ! (λ l₁₃. alloc1 ! (λ l₁₄. alloc1 ! (λ l₁₅. alloc1 ! (λ l₁₆. alloc0 ! $ params1 ! $
+        pass1 ! (init ! 30 refl (ledger-typed 𝓤 H A W l _ gl)) $ pass1 ! (init ! 28 refl (tt, (tt, (record { fits = room₀ .0 }, tt)))) $ pass1 ! (init ! 26 refl (tt, (tt, (record { fits = room₁ .0 }, tt)))) $ pass1 ! (init ! 24 refl (tt, (tt, (record { fits = room₂ .0 }, tt)))) $ pass0 ! $
+        move ! (35 ∷ []) $ fsplit ! $ drop ! $ fsplit ! $ move ! (1 ∷ []) $ fsplit ! $ move ! (1 ∷ []) $ fsplit ! $ move ! (1 ∷ []) $ drop ! $ move ! (37 ∷ []) $ split ! $ move ! (1 ∷ []) $ split ! $ move ! (1 ∷ []) $ split ! $ move ! (1 ∷ []) $ drop ! $ move ! (2 ∷ 1 ∷ 0 ∷ 5 ∷ 4 ∷ 3 ∷ []) $
+        -- [the three tokens; what map, desk and message own; _16; …; …; _0; …]: the local i stands at 6 + 2 · (16 − i). The length is looked at first
+        assigns ! (of-opd ! (load ! (from ! (fld ! refl (stop !))) (look-in ! 32 (sub ! 1 refl (whole !))))) (from ! (stop !)) (init ! 26 refl (tt, record { fits = room₁ .0 })) $
+        assigns ! (bin ! (load ! (from ! (stop !)) (look ! 26 refl)) (lit ! tt) tt) (from ! (stop !)) (init ! 24 refl (tt, tt)) $
+        first ! $ branches ! (load ! (from ! (stop !)) (look ! 24 refl))
+        -- another length: nothing is done
+        (λ other. let differs = not-slots other in
+        assigns ! (agg ! (and-then ! (lit ! tt) (and-then ! (load ! (from ! (stop !)) (look ! 36 refl)) (no-more !)))) (from ! (stop !)) (init ! 38 refl (taken-typed 𝓤 H A W refusal _ refusal-is)) $
+        returns-within ! Post refl (look ! 38 refl) $ forget ! 24 refl $ forget ! 26 refl $ forget ! 30 refl $ forget ! 32 refl $ forget ! 34 refl $ forget ! 36 refl $ forget ! 38 refl $
+        move ! (38 ∷ 39 ∷ []) $ free1 ! $ move ! (36 ∷ 37 ∷ []) $ free1 ! $ move ! (34 ∷ 35 ∷ []) $ free1 ! $ move ! (32 ∷ 33 ∷ []) $ free1 ! $ move ! (30 ∷ 31 ∷ []) $ free1 ! $ move ! (28 ∷ 29 ∷ []) $ free1 ! $ move ! (26 ∷ 27 ∷ []) $ free1 ! $ move ! (24 ∷ 25 ∷ []) $ free1 ! $ move ! (22 ∷ 23 ∷ []) $ free1 ! $ move ! (20 ∷ 21 ∷ []) $ free1 ! $ move ! (18 ∷ 19 ∷ []) $ free1 ! $ move ! (16 ∷ 17 ∷ []) $ free1 ! $ move ! (14 ∷ 15 ∷ []) $ free1 ! $ move ! (12 ∷ 13 ∷ []) $ free1 ! $ move ! (10 ∷ 11 ∷ []) $ free1 ! $ move ! (8 ∷ 9 ∷ []) $ free1 ! $ move ! (6 ∷ 7 ∷ []) $ free1 ! $ free0 ! $
+        move ! (3 ∷ []) $ use1 W (‵ (finally u8 γ₀ bs)) (unused 𝓤 H A W (named 0) κ₀ u8 (m γ₀) (v₀ ∷ [])) $ move ! (4 ∷ []) $ use1 W (‵ (finally R γ₁ ys)) (unused 𝓤 H A W (named 1) κ₁ R (d γ₁) (v₁ ∷ [])) $ move ! (2 ∷ 3 ∷ 4 ∷ 1 ∷ 0 ∷ []) $
+        by ! (exits refusal bs ys (sym (other-taken l bs ys (s .now) differs)) (sym (other-map l bs ys (s .now) differs)) (sym (other-desk l bs ys (s .now) differs)) refl refl refusal-is))
+        (λ same. skips ! $ exec ! C Λ (E l₀ l₁ l₂ l₃ l₄ l₅ l₆ l₇ l₈ l₉ l₁₀ l₁₁ l₁₂ l₁₃ l₁₄ l₁₅ l₁₆) body.t-4 (atRet (E l₀ l₁ l₂ l₃ l₄ l₅ l₆ l₇ l₈ l₉ l₁₀ l₁₁ l₁₂ l₁₃ l₁₄ l₁₅ l₁₆) Post) $
+        -- `planned`: desk and map are lent as `&` for lifetimes ν₁ and ν₀ of the call
+        assigns ! (addr ! (from ! (fld ! refl (hop ! (look-in ! 32 (sub ! 0 refl (whole !))) (stop !))))) (from ! (stop !)) (init ! 22 refl (tt, tt)) $
+        assigns ! (agg ! (and-then ! (load ! (from ! (stop !)) (look ! 22 refl)) (and-then ! (load ! (from ! (fld ! refl (stop !))) (look-in ! 32 (sub ! 1 refl (whole !)))) (no-more !)))) (from ! (stop !)) (init ! 20 refl (tt, (tt, (record { fits = room₁ .0 }, tt)))) $
+        assigns ! (addr ! (from ! (fld ! refl (hop ! (look-in ! 34 (sub ! 0 refl (whole !))) (stop !))))) (from ! (stop !)) (init ! 18 refl (tt, tt)) $
+        assigns ! (agg ! (and-then ! (load ! (from ! (stop !)) (look ! 18 refl)) (and-then ! (load ! (from ! (fld ! refl (stop !))) (look-in ! 34 (sub ! 1 refl (whole !)))) (no-more !)))) (from ! (stop !)) (init ! 16 refl (tt, (tt, (record { fits = room₀ .0 }, tt)))) $
         lft-new ! tt (λ ν₁. move ! (5 ∷ 2 ∷ []) $
         use2 W (later (some (λ (δ₁ : GName). ‵ (ShrSlice (named 0) (ν₁ ∷ []) R .own (d δ₁) (v₁ ∷ [])) ⊛ ‵ (LentOut R κ₁ (ν₁ ∷ []) q₁ γ₁ b₁ c₁ ys)))) (lends-out R κ₁ (ν₁ ∷ []) q₁ γ₁ b₁ c₁ ys 𝓤 H A W (named 1) (named 0)) $ await ! tt $ pick ! (λ δ₁. split ! $
         lft-new ! tt (λ ν₀. move ! (6 ∷ 4 ∷ []) $
         use2 W (later (some (λ (δ₀ : GName). ‵ (ShrSlice (named 1) (ν₀ ∷ []) u8 .own (m δ₀) (v₀ ∷ [])) ⊛ ‵ (LentOut u8 κ₀ (ν₀ ∷ []) q₀ γ₀ b₀ c₀ bs)))) (lends-out u8 κ₀ (ν₀ ∷ []) q₀ γ₀ b₀ c₀ bs 𝓤 H A W (named 0) (named 1)) $ await ! tt $ pick ! (λ δ₀. split ! $
         move ! (7 ∷ []) $ use1 W (‵ Own₂ ⊛ ‵ Own₂) (shr-slice-copy 𝓤 H A W (named 2) κ₂ u8 .twice s (v₂ ∷ [])) $ split ! $ move ! (7 ∷ 4 ∷ 8 ∷ 5 ∷ 2 ∷ 0 ∷ []) $ group ! 6 $ use1 W (raw (Planned 𝓤 H A mem run .pre (to-planned ν₀ δ₀ ν₁ δ₁))) (goes-planned ν₀ δ₀ ν₁ δ₁) $
-        calls-at ! fm (Planned 𝓤 H A mem run) known-planned (to-planned ν₀ δ₀ ν₁ δ₁) (and-then ! (load ! (from ! (stop !)) (look ! 18 refl)) (and-then ! (load ! (from ! (stop !)) (look ! 30 refl)) (and-then ! (load ! (from ! (stop !)) (look ! 14 refl)) (and-then ! (load ! (from ! (stop !)) (look ! 24 refl)) (no-more !))))) (λ w₁.
+        calls-at ! fm (Planned 𝓤 H A mem run) known-planned (to-planned ν₀ δ₀ ν₁ δ₁) (and-then ! (load ! (from ! (stop !)) (look ! 18 refl)) (and-then ! (load ! (from ! (stop !)) (look ! 34 refl)) (and-then ! (load ! (from ! (stop !)) (look ! 14 refl)) (and-then ! (load ! (from ! (stop !)) (look ! 28 refl)) (no-more !))))) (λ w₁.
         use1 W (later (some (λ (r : Plan). ((‵ (flft (ν₁ ∷ []) fullShare) ⊛ ‵ (flft (ν₀ ∷ []) fullShare) ⊛ ‵ (flft κ₂ q₂) ⊛ ‵ ftrue) ⊛ ‵ (PlanR .own r (w₁ ∷ []))) ⊛ raw (ensured 𝓤 H A planned.ended (planned.clauses 𝓤 H A mem run) ((to-planned ν₀ δ₀ ν₁ δ₁) .0 .0) ((to-planned ν₀ δ₀ ν₁ δ₁) .0 .3) tt r)))) (id⊢ 𝓤 _) $ await ! tt $ pick ! (λ r₁.
         split ! $ move ! (1 ∷ []) $ use1 W (raw (fact 𝓤 (r₁ ≡ p))) (planned-said 𝓤 H A mem run (ν₁ ∷ []) (ν₀ ∷ []) κ₂ (d δ₁) l (m δ₀) s r₁) $ heard ! (r₁ ≡ p) (λ e₁. split ! $ move ! (1 ∷ []) $ rewrite ! 0 (λ (r : Plan). ‵ (PlanR .own r (w₁ ∷ []))) e₁ refl $ facts ! PlanR (Is PlanR) (shows 𝓤 H A PlanR) (p) (w₁ ∷ []) (λ is₁.
-        land ! (from ! (stop !)) (init ! 22 refl (plan-typed 𝓤 H A W p _ is₁)) $ rewrite ! 22 (λ (u : Val). ‵ (fat fullShare TPlan′.mir l₅ 0 u)) (ap only (plan-tells p _ is₁)) refl $ split ! $ move ! (1 ∷ []) $ split ! $ move ! (1 ∷ []) $ split ! $ move ! (1 ∷ []) $ drop ! $
+        land ! (from ! (stop !)) (init ! 26 refl (plan-typed 𝓤 H A W p _ is₁)) $ rewrite ! 26 (λ (u : Val). ‵ (fat fullShare TPlan′.mir l₅ 0 u)) (ap only (plan-tells p _ is₁)) refl $ split ! $ move ! (1 ∷ []) $ split ! $ move ! (1 ∷ []) $ split ! $ move ! (1 ∷ []) $ drop ! $
         move ! (2 ∷ []) $ lft-end ! tt $ move ! (0 ∷ 5 ∷ []) $ use2 W (later (‵ Own₁ ⊛ ‵ (flft κ₁ q₁))) (out-back R κ₁ (ν₁ ∷ []) q₁ γ₁ b₁ c₁ ys 𝓤 H A W (named 1) (named 0) room₁) $ await ! tt $ split ! $
         move ! (3 ∷ []) $ lft-end ! tt $ move ! (0 ∷ 5 ∷ []) $ use2 W (later (‵ Own₀ ⊛ ‵ (flft κ₀ q₀))) (out-back u8 κ₀ (ν₀ ∷ []) q₀ γ₀ b₀ c₀ bs 𝓤 H A W (named 0) (named 1) room₀) $ await ! tt $ split ! $
         let fields = LL.owed TPlan.the-type TPlan′.the-laws p _ is₁ in
         -- `slot_put`: of the plan, at, slot and number lie at the offsets 368, 376 and 448
-        assigns ! (addr ! (from ! (fld ! refl (hop ! (look-in ! 28 (sub ! 0 refl (whole !))) (stop !))))) (from ! (stop !)) (init ! 12 refl (tt, tt)) $
-        assigns ! (agg ! (and-then ! (load ! (from ! (stop !)) (look ! 12 refl)) (and-then ! (load ! (from ! (fld ! refl (stop !))) (look-in ! 28 (sub ! 1 refl (whole !)))) (no-more !)))) (from ! (stop !)) (init ! 10 refl (tt, (tt, (record { fits = room₁ .0 }, tt)))) $
+        assigns ! (addr ! (from ! (fld ! refl (hop ! (look-in ! 32 (sub ! 0 refl (whole !))) (stop !))))) (from ! (stop !)) (init ! 12 refl (tt, tt)) $
+        assigns ! (agg ! (and-then ! (load ! (from ! (stop !)) (look ! 12 refl)) (and-then ! (load ! (from ! (fld ! refl (stop !))) (look-in ! 32 (sub ! 1 refl (whole !)))) (no-more !)))) (from ! (stop !)) (init ! 10 refl (tt, (tt, (record { fits = room₁ .0 }, tt)))) $
         move ! (3 ∷ 2 ∷ []) $ use2 W (raw (SlotPut 𝓤 H A mem run .pre to-slot-put)) (goes-slot-put (fields .1 .0 .1) (fields .1 .1 .0)) $
-        calls-at ! fm (SlotPut 𝓤 H A mem run) known-slot-put to-slot-put (and-then ! (load ! (from ! (stop !)) (look ! 9 refl)) (and-then ! (load ! (from ! (fld ! {τ = tyInt w64} {d = 368} refl (stop !))) (look-in ! 23 {τ = tyInt w64} (sub ! {τs = parts} 1 {τ = tyInt w64} {d = 368} refl (whole !)))) (and-then ! (load ! (from ! (fld ! {τ = TSlot′.mir} {d = 376} refl (stop !))) (look-in ! 23 {τ = TSlot′.mir} (sub ! {τs = parts} 2 {τ = TSlot′.mir} {d = 376} refl (whole !)))) (no-more !)))) (λ w₂.
+        calls-at ! fm (SlotPut 𝓤 H A mem run) known-slot-put to-slot-put (and-then ! (load ! (from ! (stop !)) (look ! 9 refl)) (and-then ! (load ! (from ! (fld ! {τ = tyInt w64} {d = 368} refl (stop !))) (look-in ! 27 {τ = tyInt w64} (sub ! {τs = parts} 1 {τ = tyInt w64} {d = 368} refl (whole !)))) (and-then ! (load ! (from ! (fld ! {τ = TSlot′.mir} {d = 376} refl (stop !))) (look-in ! 27 {τ = TSlot′.mir} (sub ! {τs = parts} 2 {τ = TSlot′.mir} {d = 376} refl (whole !)))) (no-more !)))) (λ w₂.
         use1 W (later (some (λ (r : Unit {0}). ((‵ (flft κ₁ q₁) ⊛ ‵ ftrue) ⊛ ‵ (unit .own r (w₂ ∷ []))) ⊛ raw (ensured 𝓤 H A slot-put.ended (slot-put.clauses 𝓤 H A mem run) (to-slot-put .0 .0) (to-slot-put .0 .3) tt r)))) (id⊢ 𝓤 _) $ await ! tt $ pick ! (λ r₂.
         split ! $ move ! (1 ∷ []) $ use1 W (some (λ (zs : List Slot × (Unit {0} × (Unit {0} × Unit {0}))). ‵ (lasts slot-put.ended (κ₁, tt) (to-slot-put .0 .3) zs) ⊛ raw (fact 𝓤 (zs .0 ≡ set ys (p .at) (p .slot))))) (id⊢ 𝓤 _) $ pick ! (λ zs₂.
         split ! $ move ! (1 ∷ []) $ heard ! (zs₂ .0 ≡ set ys (p .at) (p .slot)) (λ e₂. fsplit ! $ fsplit ! $ move ! (1 ∷ []) $ feqL ! (λ n₂. move ! (1 ∷ []) $ drop ! $ move ! (1 ∷ []) $ split ! $ split ! $ move ! (1 ∷ []) $ drop ! $ move ! (1 ∷ []) $ feqL ! (λ u₂.
         land ! (from ! (stop !)) (init ! 14 refl (subst (λ (u : Val). T (hasTy tyUnit u) × WT u) (sym (ap only u₂)) (tt, tt))) $
         -- `marks::mark`
-        assigns ! (addr ! (from ! (fld ! refl (hop ! (look-in ! 30 (sub ! 0 refl (whole !))) (stop !))))) (from ! (stop !)) (init ! 8 refl (tt, tt)) $
-        assigns ! (agg ! (and-then ! (load ! (from ! (stop !)) (look ! 8 refl)) (and-then ! (load ! (from ! (fld ! refl (stop !))) (look-in ! 30 (sub ! 1 refl (whole !)))) (no-more !)))) (from ! (stop !)) (init ! 6 refl (tt, (tt, (record { fits = room₀ .0 }, tt)))) $
+        assigns ! (addr ! (from ! (fld ! refl (hop ! (look-in ! 34 (sub ! 0 refl (whole !))) (stop !))))) (from ! (stop !)) (init ! 8 refl (tt, tt)) $
+        assigns ! (agg ! (and-then ! (load ! (from ! (stop !)) (look ! 8 refl)) (and-then ! (load ! (from ! (fld ! refl (stop !))) (look-in ! 34 (sub ! 1 refl (whole !)))) (no-more !)))) (from ! (stop !)) (init ! 6 refl (tt, (tt, (record { fits = room₀ .0 }, tt)))) $
         move ! (3 ∷ 2 ∷ []) $ use2 W (raw (Mark 𝓤 H A mem run .pre to-mark)) (goes-mark (fields .1 .1 .1 .0 .1)) $
-        calls-at ! fm (Mark 𝓤 H A mem run) known-mark to-mark (and-then ! (load ! (from ! (stop !)) (look ! 5 refl)) (and-then ! (load ! (from ! (fld ! {τ = tyInt w16} {d = 448} refl (stop !))) (look-in ! 23 {τ = tyInt w16} (sub ! {τs = parts} 3 {τ = tyInt w16} {d = 448} refl (whole !)))) (no-more !))) (λ w₃.
+        calls-at ! fm (Mark 𝓤 H A mem run) known-mark to-mark (and-then ! (load ! (from ! (stop !)) (look ! 5 refl)) (and-then ! (load ! (from ! (fld ! {τ = tyInt w16} {d = 448} refl (stop !))) (look-in ! 27 {τ = tyInt w16} (sub ! {τs = parts} 3 {τ = tyInt w16} {d = 448} refl (whole !)))) (no-more !))) (λ w₃.
         use1 W (later (some (λ (r : Unit {0}). ((‵ (flft κ₀ q₀) ⊛ ‵ ftrue) ⊛ ‵ (unit .own r (w₃ ∷ []))) ⊛ raw (ensured 𝓤 H A mark.ended (mark.clauses 𝓤 H A mem run) (to-mark .0 .0) (to-mark .0 .3) tt r)))) (id⊢ 𝓤 _) $ await ! tt $ pick ! (λ r₃.
         split ! $ move ! (1 ∷ []) $ use1 W (some (λ (zs : List ℕ × (Unit {0} × Unit {0})). ‵ (lasts mark.ended (κ₀, tt) (to-mark .0 .3) zs) ⊛ raw (fact 𝓤 (zs .0 ≡ markedWith bs (p .number))))) (id⊢ 𝓤 _) $ pick ! (λ zs₃.
         split ! $ move ! (1 ∷ []) $ heard ! (zs₃ .0 ≡ markedWith bs (p .number)) (λ e₃. fsplit ! $ fsplit ! $ move ! (1 ∷ []) $ feqL ! (λ n₃. move ! (1 ∷ []) $ drop ! $ move ! (1 ∷ []) $ split ! $ split ! $ move ! (1 ∷ []) $ drop ! $ move ! (1 ∷ []) $ feqL ! (λ u₃.
         land ! (from ! (stop !)) (store ! 14 refl (subst (λ (u : Val). T (hasTy tyUnit u) × WT u) (sym (ap only u₃)) (tt, tt))) $
         -- `plan::taken_by`
         use0 W (raw (TakenBy 𝓤 H A mem run .pre to-taken-by)) (goes-taken-by (subst (Is PlanR p) (plan-tells p _ is₁) is₁)) $
-        calls-at ! fm (TakenBy 𝓤 H A mem run) known-taken-by to-taken-by (and-then ! (load ! (from ! (stop !)) (look ! 25 refl)) (no-more !)) (λ w₄.
+        calls-at ! fm (TakenBy 𝓤 H A mem run) known-taken-by to-taken-by (and-then ! (load ! (from ! (stop !)) (look ! 29 refl)) (no-more !)) (λ w₄.
         use1 W (later (some (λ (r : Taken). (‵ ftrue ⊛ ‵ (TakenR .own r (w₄ ∷ []))) ⊛ raw (ensured 𝓤 H A taken-by.ended (taken-by.clauses 𝓤 H A mem run) (to-taken-by .0 .0) (to-taken-by .0 .3) tt r)))) (id⊢ 𝓤 _) $ await ! tt $ pick ! (λ r₄.
         split ! $ move ! (1 ∷ []) $ use1 W (raw (fact 𝓤 (r₄ ≡ p .taken))) (taken-said 𝓤 H A mem run p r₄) $ heard ! (r₄ ≡ p .taken) (λ e₄. split ! $ drop ! $ rewrite ! 0 (λ (r : Taken). ‵ (TakenR .own r (w₄ ∷ []))) e₄ refl $ facts ! TakenR (Is TakenR) (shows 𝓤 H A TakenR) (p .taken) (w₄ ∷ []) (λ is₄.
-        land ! (from ! (stop !)) (init ! 34 refl (taken-typed 𝓤 H A W (p .taken) _ is₄)) $ rewrite ! 34 (λ (u : Val). ‵ (fat fullShare TTaken′.mir l₀ 0 u)) (ap only (taken-tells (p .taken) _ is₄)) refl $
-        move ! (0 ∷ 2 ∷ 4 ∷ 1 ∷ 3 ∷ 5 ∷ []) $ returns ! (look ! 34 refl) $ forget ! 6 refl $ forget ! 8 refl $ forget ! 10 refl $ forget ! 12 refl $ forget ! 14 refl $ forget ! 16 refl $ forget ! 18 refl $ forget ! 20 refl $ forget ! 22 refl $ forget ! 24 refl $ forget ! 26 refl $ forget ! 28 refl $ forget ! 30 refl $ forget ! 32 refl $ forget ! 34 refl $
-        move ! (34 ∷ 35 ∷ []) $ free1 ! $ move ! (32 ∷ 33 ∷ []) $ free1 ! $ move ! (30 ∷ 31 ∷ []) $ free1 ! $ move ! (28 ∷ 29 ∷ []) $ free1 ! $ move ! (26 ∷ 27 ∷ []) $ free1 ! $ move ! (24 ∷ 25 ∷ []) $ free1 ! $ move ! (22 ∷ 23 ∷ []) $ free1 ! $ move ! (20 ∷ 21 ∷ []) $ free1 ! $ move ! (18 ∷ 19 ∷ []) $ free1 ! $ move ! (16 ∷ 17 ∷ []) $ free1 ! $ move ! (14 ∷ 15 ∷ []) $ free1 ! $ move ! (12 ∷ 13 ∷ []) $ free1 ! $ move ! (10 ∷ 11 ∷ []) $ free1 ! $ move ! (8 ∷ 9 ∷ []) $ free1 ! $ move ! (6 ∷ 7 ∷ []) $ free1 ! $ free0 ! $ by ! (exits (zs₃ .0) (zs₂ .0) e₃ e₂ n₃ n₂ (subst (Is TakenR (p .taken)) (taken-tells (p .taken) _ is₄) is₄)))))))))))))))))))))))))))))))))))))))))
+        land ! (from ! (stop !)) (init ! 38 refl (taken-typed 𝓤 H A W (p .taken) _ is₄)) $ rewrite ! 38 (λ (u : Val). ‵ (fat fullShare TTaken′.mir l₀ 0 u)) (ap only (taken-tells (p .taken) _ is₄)) refl $
+        move ! (0 ∷ 2 ∷ 4 ∷ 1 ∷ 3 ∷ 5 ∷ []) $ returns ! (look ! 38 refl) $ forget ! 6 refl $ forget ! 8 refl $ forget ! 10 refl $ forget ! 12 refl $ forget ! 14 refl $ forget ! 16 refl $ forget ! 18 refl $ forget ! 20 refl $ forget ! 22 refl $ forget ! 24 refl $ forget ! 26 refl $ forget ! 28 refl $ forget ! 30 refl $ forget ! 32 refl $ forget ! 34 refl $ forget ! 36 refl $ forget ! 38 refl $
+        move ! (38 ∷ 39 ∷ []) $ free1 ! $ move ! (36 ∷ 37 ∷ []) $ free1 ! $ move ! (34 ∷ 35 ∷ []) $ free1 ! $ move ! (32 ∷ 33 ∷ []) $ free1 ! $ move ! (30 ∷ 31 ∷ []) $ free1 ! $ move ! (28 ∷ 29 ∷ []) $ free1 ! $ move ! (26 ∷ 27 ∷ []) $ free1 ! $ move ! (24 ∷ 25 ∷ []) $ free1 ! $ move ! (22 ∷ 23 ∷ []) $ free1 ! $ move ! (20 ∷ 21 ∷ []) $ free1 ! $ move ! (18 ∷ 19 ∷ []) $ free1 ! $ move ! (16 ∷ 17 ∷ []) $ free1 ! $ move ! (14 ∷ 15 ∷ []) $ free1 ! $ move ! (12 ∷ 13 ∷ []) $ free1 ! $ move ! (10 ∷ 11 ∷ []) $ free1 ! $ move ! (8 ∷ 9 ∷ []) $ free1 ! $ move ! (6 ∷ 7 ∷ []) $ free1 ! $ free0 ! $
+        by ! (exits (p .taken) (zs₃ .0) (zs₂ .0) (plan-taken l bs ys (s .now)) (e₃ ∙ plan-map l bs ys (s .now)) (e₂ ∙ plan-desk l bs ys (s .now)) n₃ n₂ (subst (Is TakenR (p .taken)) (taken-tells (p .taken) _ is₄) is₄))))))))))))))))))))))))))))))))))))))))))))
 
 module _ {M : Type 1} (𝓤 : URA M) (H : Heap 𝓤) (A : Atoms 𝓤) (W : Given 𝓤 H A) (mem : Memory → SProp 𝓤) (run : Routine → Fun 𝓤) where
   serve-walks : (C : Calls 𝓤 H) (Λ : Loops 𝓤 H) → FmC 𝓤 H (W .laws) C
