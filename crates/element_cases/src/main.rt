@@ -1,6 +1,7 @@
 // Cases of the element table and its figures: each line is a case's name and what must come out, worked out by hand from document 02, K1. A record's
 // answer is one number; an exact figure is 0, top and bottom; a decimal is 0, whole part and digits; a refusal is its number alone.
 use decimal::Shown;
+use inflow::Inflow;
 use ledger::Ledger;
 use libc::STDOUT_FILENO;
 use rates::Figure;
@@ -568,6 +569,38 @@ fn periods() {
     began(b"a period of 4,294,967,295", 4294967295);
 }
 
+// A file in pieces: the answer to a piece of so many bytes of a buffer of 10, which has two records of a kind that is not taken and two bytes more, and the
+// refused records after it; then the answer of the file's end, and its refused records.
+fn piece(name: &[u8], table: Table, refused: u64, filled: usize) {
+    let mut buffer = [4, 0, 9, 0, 4, 0, 9, 0, 3, 0];
+    let flow = Inflow {
+        table,
+        refused,
+        held: 0,
+        dead: false,
+    };
+    let flowed = inflow::take_piece(flow, &mut buffer, filled);
+    let next = flowed.flow;
+    let read = inflow::finish(next);
+    word(name);
+    number(flowed.answer as u64);
+    number(next.refused);
+    number(read.answer as u64);
+    one(read.refused);
+}
+
+fn pieces() {
+    word(b"-- 1, 252 and 253: a piece, and the end\n");
+    piece(b"two records", seen(), 0, 8);
+    piece(b"two bytes more", seen(), 0, 10);
+    piece(b"11 bytes of a buffer of 10", seen(), 0, 11);
+    piece(b"2^62 refused before", seen(), 4611686018427387904, 8);
+    piece(b"one more", seen(), 4611686018427387905, 8);
+    piece(b"252 before 253", seen(), 4611686018427387905, 11);
+    piece(b"an unsound table", of_period(0), 0, 8);
+    piece(b"1 before all", of_period(0), 4611686018427387905, 11);
+}
+
 fn main() {
     unsound();
     unsound_stock();
@@ -586,4 +619,5 @@ fn main() {
     figures();
     decimals();
     periods();
+    pieces();
 }

@@ -229,7 +229,7 @@ fn take_open(fd: i32, table: Table) -> Taken {
     Taken {
         table: next,
         refused: read.refused,
-        failed: input.failed,
+        failed: input.failed | (read.answer != 0),
     }
 }
 

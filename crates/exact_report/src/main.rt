@@ -143,14 +143,14 @@ fn main() {
     let mut map = [0u8; 8192];
     let mut buffer = io::large_buffer();
     let input = read_book(&mut map, &mut buffer);
-    if input.failed {
+    let read = feed::finish(input.feed);
+    if input.failed | (read.answer != 0) {
         io::write_all(
             STDERR_FILENO,
             b"exact_report: standard input cannot be read\n",
         );
         return;
     }
-    let read = feed::finish(input.feed);
     let ledger = read.ledger;
     let sheet = ledger.sheet;
     say_head(ledger, read.refused);

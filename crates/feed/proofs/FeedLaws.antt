@@ -1,14 +1,15 @@
 -- The three ways that the taking of a piece goes: refused, nothing to take any more, taken. Assumes nothing.
-use mathlib.Core.Path.{_≡_, sym, _∙_}
+use mathlib.Core.Path.{_≡_, sym, ap, _∙_}
 use Prim.Native.Nat.{ℕ, _+_, _-_, _≤_}
 use native.Mathlib.Nat.{add-zero}
 use native.Mathlib.Omega.{arith}
-use mathlib.Core.Bool.{Bool, true, false, _||_, not}
+use mathlib.Core.Bool.{Bool, true, false, _&&_, not}
 use mathlib.Core.List.{List}
-use lib.Dec.{eqb, ltb}
+use lib.Dec.{eqb}
 use lib.ListN.{length, take, length-take}
-use borrow.Author.Tests.{eqb-true, ltb-false, not-false}
-use Rattle.base.proofs.TestLaws.{or-left, or-right}
+use borrow.Author.Tests.{eqb-true, eq-eqb, ne-eqb, ltb-false, le-ltb, not-false}
+use Rattle.base.proofs.TestLaws.{and-left, and-right}
+use Rattle.base.proofs.FirstLaws.{clear, unclear}
 use Rattle.wire.specs.Cut.{recordsOf, stopFrom}
 use Rattle.wire.proofs.AppendLaws.{stop-within}
 use Rattle.ledger.specs.Sound.{soundLedger}
@@ -17,46 +18,55 @@ use Rattle.book.proofs.RunLaws.{refused-below}
 use Rattle.book.proofs.AppendLaws.{refusedBefore, before-all}
 use Rattle.feed.specs.declared.Feed.{Feed}
 use Rattle.feed.specs.declared.Fed.{Fed}
-use Rattle.feed.specs.Feed.{mostRefused, deadRest, moved, unfed, ran, heldAfter, bufferFed, mapFed, fedOf}
+use Rattle.feed.specs.Feed.{mostRefused, endRules, endAnswer, pieceRules, pieceAnswer, deadRest, moved, fedAnswer, taken, ran, heldAfter, bufferFed, mapFed, fedOf}
+
+-- an answer of 0: nothing is wrong with what is filled, with the count or with what is told
+pub piece-clear : (fit : Bool) (refused room filled : ℕ) → pieceAnswer fit refused room filled ≡ 0 → (fit ≡ true) × (refused ≤ mostRefused) × (filled ≤ room)
+piece-clear fit refused room filled a =
+    let c = clear 0 (pieceRules fit refused room filled) (tt, (tt, (tt, tt))) a in
+    (not-false fit (c .0), ltb-false mostRefused refused (c .1 .0), ltb-false room filled (c .1 .1 .0))
+
+pub end-clear : (fit : Bool) (refused : ℕ) → endAnswer fit refused ≡ 0 → (fit ≡ true) × (refused ≤ mostRefused)
+end-clear fit refused a =
+    let c = clear 0 (endRules fit refused) (tt, (tt, tt)) a in
+    (not-false fit (c .0), ltb-false mostRefused refused (c .1 .0))
+
+-- and the other way round
+pub end-goes-on : (fit : Bool) (refused : ℕ) → fit ≡ true → refused ≤ mostRefused → endAnswer fit refused ≡ 0
+end-goes-on fit refused e few = unclear (endRules fit refused) (ap not e, (le-ltb mostRefused refused few, tt))
 
 module _ (f : Feed) (m b : List ℕ) (filled : ℕ) where
   -- what the call came to: its answer, the map and the buffer
   abbrev pub Comes : Fed → List ℕ → List ℕ → Type 0
   Comes r m₁ b₁ = (r ≡ fedOf f m b filled) × (m₁ ≡ mapFed f m b filled) × (b₁ ≡ bufferFed f m b filled)
 
-  pub feed-refused : unfed f m b filled ≡ true → Comes (record { answer = 1; feed = f }) m b
+  pub feed-refused : (fedAnswer f m b filled ≡ 0 → ⊥) → Comes (record { answer = fedAnswer f m b filled; feed = f }) m b
   unfolding fedOf mapFed bufferFed
-  feed-refused u = (sym (rw u), sym (rw u), sym (rw u))
+  feed-refused z = let u : taken f m b filled ≡ false = ne-eqb (fedAnswer f m b filled) 0 z in (sym (rw u), sym (rw u), sym (rw u))
 
-  module _ (u : unfed f m b filled ≡ false) where
+  module _ (a : fedAnswer f m b filled ≡ 0) where
+    u : taken f m b filled ≡ true
+    u = eq-eqb (fedAnswer f m b filled) 0 a
+
     pub feed-over : f .dead ≡ true → Comes (record { answer = 0; feed = f }) m b
     unfolding fedOf mapFed bufferFed
     feed-over d = (sym (rw (u, d)), sym (rw (u, d)), sym (rw (u, d)))
 
     -- what is not refused
-    abbrev otherMap : Bool
-    otherMap = not (eqb (length m) 8192)
-
-    abbrev unsoundLedger : Bool
-    unsoundLedger = not (soundLedger (f .ledger))
-
-    abbrev shortBuffer : Bool
-    shortBuffer = ltb (length b) filled
-
-    first-three : (otherMap || unsoundLedger || shortBuffer) ≡ false
-    first-three = or-left (otherMap || unsoundLedger || shortBuffer) (ltb mostRefused (f .refused)) u
+    clear-piece : (eqb (length m) 8192 && soundLedger (f .ledger)) ≡ true × (f .refused ≤ mostRefused) × (filled ≤ length b)
+    clear-piece = piece-clear (eqb (length m) 8192 && soundLedger (f .ledger)) (f .refused) (length b) filled a
 
     pub map-long : length m ≡ 8192
-    map-long = eqb-true (length m) 8192 (not-false (eqb (length m) 8192) (or-left otherMap unsoundLedger (or-left (otherMap || unsoundLedger) shortBuffer first-three)))
+    map-long = eqb-true (length m) 8192 (and-left (eqb (length m) 8192) (soundLedger (f .ledger)) (clear-piece .0))
 
     pub ledger-sound : soundLedger (f .ledger) ≡ true
-    ledger-sound = not-false (soundLedger (f .ledger)) (or-right otherMap unsoundLedger (or-left (otherMap || unsoundLedger) shortBuffer first-three))
-
-    pub buffer-long : filled ≤ length b
-    buffer-long = ltb-false (length b) filled (or-right (otherMap || unsoundLedger) shortBuffer first-three)
+    ledger-sound = and-right (eqb (length m) 8192) (soundLedger (f .ledger)) (clear-piece .0)
 
     pub refused-few : f .refused ≤ mostRefused
-    refused-few = ltb-false mostRefused (f .refused) (or-right (otherMap || unsoundLedger || shortBuffer) (ltb mostRefused (f .refused)) u)
+    refused-few = clear-piece .1
+
+    pub buffer-long : filled ≤ length b
+    buffer-long = clear-piece .2
 
     pub stop-before : stopFrom (take filled b) 0 ≤ filled
     stop-before = omega (arith, stop-within (take filled b), length-take filled b)

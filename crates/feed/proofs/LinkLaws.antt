@@ -9,8 +9,8 @@ use mathlib.Core.List.{List, [], _∷_, _++_}
 use lib.Dec.{leb, ltb, eqb}
 use lib.ListN.{length, getD, take, drop, length-append, length-take, length-drop, take-append-drop, List·getD-eq-default}
 use lib.Seq.{take-take, take-at, length-take-le, getD-drop, getD-take}
-use borrow.Author.Tests.{le-ltb, le-leb, leb-true, leb-false, ltb-true, ltb-false}
-use Rattle.base.proofs.TestLaws.{Tested, holds, fails, test}
+use borrow.Author.Tests.{eq-eqb, le-ltb, le-leb, leb-true, leb-false, ltb-true, ltb-false, not-false}
+use Rattle.base.proofs.TestLaws.{Tested, holds, fails, test, or-right}
 use Rattle.wire.specs.Numbers.{le16}
 use Rattle.wire.specs.Cut.{recordsOf, stopFrom, joined}
 use Rattle.wire.proofs.AppendLaws.{rest-not-whole, stated-append}
@@ -19,14 +19,14 @@ use Rattle.ledger.specs.Sound.{soundLedger}
 use Rattle.ledger.specs.Take.{unsound}
 use Rattle.ledger.proofs.TakeLaws.{map-size-kept}
 use Rattle.book.specs.declared.Read.{Read}
-use Rattle.book.specs.Book.{State, takeRecord, takeAll, afterBook, isBroken, readOf}
+use Rattle.book.specs.Book.{State, starting, takeRecord, takeAll, afterBook, isBroken, readOf}
 use Rattle.book.proofs.RunLaws.{read-through, refused-below}
 use Rattle.book.proofs.SoundLaws.{sound-run}
 use Rattle.feed.specs.declared.Feed.{Feed}
 use Rattle.feed.specs.declared.Fed.{Fed}
-use Rattle.feed.specs.Feed.{mostRefused, Pieces, restOf, deadRest, beginning, fed, fedAll, moved, unfed, stateOf, ran, heldAfter, bufferFed, mapFed, fedOf, finishedOf}
+use Rattle.feed.specs.Feed.{mostRefused, Pieces, restOf, deadRest, beginning, fed, fedAll, moved, fedAnswer, taken, finishAnswer, stateOf, ran, heldAfter, bufferFed, mapFed, fedOf, finishedOf}
 use Rattle.feed.proofs.PieceLaws.{pieces-whole, fed-dead, fed-more}
-use Rattle.feed.proofs.FeedLaws.{buffer-long, ledger-sound, map-long, stop-before, feed-over}
+use Rattle.feed.proofs.FeedLaws.{end-goes-on, buffer-long, ledger-sound, map-long, stop-before, feed-over}
 
 -- a feed with its map and its buffer holds a reading in pieces
 pub record Holding (f : Feed) (m b : List ℕ) (p : Pieces) : Type 0 where
@@ -67,7 +67,7 @@ module _ (b : List ℕ) (filled : ℕ) (l : filled ≤ length b) where
       (let d : length (drop (heldAfter b filled) b) ≡ length b - heldAfter b filled = length-drop (heldAfter b filled) b in
       omega (arith, rest-long))
 
-module _ (f : Feed) (m b : List ℕ) (filled : ℕ) (u : unfed f m b filled ≡ false) where
+module _ (f : Feed) (m b : List ℕ) (filled : ℕ) (u : fedAnswer f m b filled ≡ 0) where
   after-dead : f .dead ≡ true → (fedOf f m b filled ≡ record { answer = 0; feed = f }) × (mapFed f m b filled ≡ m) × (bufferFed f m b filled ≡ b)
   after-dead d = let h = feed-over f m b filled u d in (sym (h .0), sym (h .1), sym (h .2))
 
@@ -86,7 +86,7 @@ module _ (f : Feed) (m b : List ℕ) (filled : ℕ) (u : unfed f m b filled ≡ 
       }) ×
       (mapFed f m b filled ≡ ran f m b filled .map) × (bufferFed f m b filled ≡ moved b (stopFrom (take filled b) 0) filled)
   unfolding fedOf mapFed bufferFed
-  after-taken d = (rw (u, d), rw (u, d), rw (u, d))
+  after-taken d = let t : taken f m b filled ≡ true = eq-eqb (fedAnswer f m b filled) 0 u in (rw (t, d), rw (t, d), rw (t, d))
 
   module _ (p : Pieces) (h : Holding f m b p) (within : f .held ≤ filled) where
     -- the bytes that follow those held
@@ -144,15 +144,23 @@ module _ (l : Ledger) (m : List ℕ) (ps : List (List ℕ)) (f : Feed) (m₁ b :
   abbrev Outcome : State → Bool → Read
   Outcome st broken = record { answer = 0; ledger = st .ledger; refused = st .refused + cond broken 1 0; broken = broken }
 
-  finish-either : (t : Bool) → eqb (f .held) 0 ≡ not t → f .refused ≤ mostRefused → finishedOf f ≡ Outcome (stateOf f m₁) t
+  finish-either : (t : Bool) → eqb (f .held) 0 ≡ not t → finishAnswer f ≡ 0 → finishedOf f ≡ Outcome (stateOf f m₁) t
   unfolding finishedOf
-  finish-either true e few = rw (le-ltb mostRefused (f .refused) few, e)
-  finish-either false e few =
-      rw (le-ltb mostRefused (f .refused) few, e) (λ i. record { answer = 0; ledger = f .ledger; refused = sym (add-zero (f .refused)) i; broken = false })
+  finish-either true e a = let z = eq-eqb (finishAnswer f) 0 a in rw (z, e)
+  finish-either false e a =
+      let z = eq-eqb (finishAnswer f) 0 a in
+      rw (z, e) (λ i. record { answer = 0; ledger = f .ledger; refused = sym (add-zero (f .refused)) i; broken = false })
+
+  -- the ledger of a book that was taken into a sound one is sound
+  ledger-whole : unsound l m ≡ false → soundLedger (f .ledger) ≡ true
+  ledger-whole u =
+      ap (λ (st : State). soundLedger (st .ledger)) state-whole ∙
+      sound-run (starting l m) (recordsOf (joined ps)) (not-false (soundLedger l) (or-right (not (eqb (length m) 8192)) (not (soundLedger l)) u))
 
   pub finish-whole : f .refused ≤ mostRefused → unsound l m ≡ false → finishedOf f ≡ readOf l m (joined ps)
   finish-whole few u =
-      finish-either (isBroken (joined ps)) held-whole few ∙ ap (λ (st : State). Outcome st (isBroken (joined ps))) state-whole ∙
+      finish-either (isBroken (joined ps)) held-whole (end-goes-on (soundLedger (f .ledger)) (f .refused) (ledger-whole u) few) ∙
+      ap (λ (st : State). Outcome st (isBroken (joined ps))) state-whole ∙
       sym (read-through l m (joined ps) u .0)
 
   -- a book of at most 2^62 bytes has no more records than that
@@ -196,7 +204,7 @@ module _ (b : List ℕ) (filled : ℕ) (l : filled ≤ length b) (bytes : (i : �
   held-few d =
       omega (arith, rest-long b filled l, never-full (take filled b) (λ i. byte-either i (test (ltb i filled))) (sym (dead-moved b filled l) ∙ d))
 
-module _ (f : Feed) (m b : List ℕ) (filled : ℕ) (u : unfed f m b filled ≡ false) (bytes : (i : ℕ) → getD b i 0 < 256) where
+module _ (f : Feed) (m b : List ℕ) (filled : ℕ) (u : fedAnswer f m b filled ≡ 0) (bytes : (i : ℕ) → getD b i 0 < 256) where
   pub feed-has-room : f .dead ≡ false → fedOf f m b filled .feed .dead ≡ false → fedOf f m b filled .feed .held < 65535
   feed-has-room d after =
       let t = after-taken f m b filled u d in
@@ -209,8 +217,9 @@ unfolding takeRecord
 map-kept st [] = refl
 map-kept st (s ∷ ss) = map-kept (takeRecord st s) ss ∙ map-size-kept (st .ledger) (st .map) s
 
--- after a call that was not refused the ledger is sound and the map and the buffer have their sizes: a next one is refused only for its count of refused records or for a `filled` past the buffer
-module _ (f : Feed) (m b : List ℕ) (filled : ℕ) (u : unfed f m b filled ≡ false) where
+-- after a call that was answered 0 the ledger is sound and the map and the buffer have their sizes: a next one is refused only for its count of refused
+-- records (252) or for a `filled` past the buffer (253), and the end only for the count
+module _ (f : Feed) (m b : List ℕ) (filled : ℕ) (u : fedAnswer f m b filled ≡ 0) where
   abbrev Fit : Fed → List ℕ → List ℕ → Type 0
   Fit r m₁ b₁ = (soundLedger (r .feed .ledger) ≡ true) × (length m₁ ≡ 8192) × (length b₁ ≡ length b)
 
@@ -229,3 +238,8 @@ module _ (f : Feed) (m b : List ℕ) (filled : ℕ) (u : unfed f m b filled ≡ 
 
   pub stays-fit : Fit (fedOf f m b filled) (mapFed f m b filled) (bufferFed f m b filled)
   stays-fit = fit-either (test (f .dead))
+
+-- with an unsound ledger there is no outcome: 1, as where a piece is taken
+pub none-finished : (f : Feed) → soundLedger (f .ledger) ≡ false → finishedOf f ≡ record { answer = 1; ledger = f .ledger; refused = f .refused; broken = false }
+unfolding finishedOf
+none-finished f s = rw s

@@ -3,55 +3,52 @@ use mathlib.Core.Path.{_≡_, sym, _∙_}
 use Prim.Native.Nat.{ℕ, _+_, _≤_}
 use native.Mathlib.Nat.{add-zero}
 use native.Mathlib.Omega.{arith}
-use mathlib.Core.Bool.{Bool, true, false, _||_, not}
+use mathlib.Core.Bool.{true, false}
 use mathlib.Core.List.{List}
-use lib.Dec.{ltb}
+use lib.Dec.{eqb}
 use lib.ListN.{length, take, length-take}
-use borrow.Author.Tests.{ltb-false, not-false}
-use Rattle.base.proofs.TestLaws.{or-left, or-right}
+use borrow.Author.Tests.{eq-eqb, ne-eqb}
 use Rattle.wire.specs.Cut.{recordsOf, stopFrom}
 use Rattle.wire.proofs.AppendLaws.{stop-within}
 use Rattle.feed.specs.Feed.{mostRefused, deadRest, moved, heldAfter}
+use Rattle.feed.proofs.FeedLaws.{piece-clear}
 use Rattle.table.specs.Table.{soundTable}
 use Rattle.yearly.specs.Yearly.{starting, takeAll, afterRecords}
 use Rattle.yearly.proofs.RunLaws.{refused-below}
 use Rattle.yearly.proofs.AppendLaws.{refusedBefore, before-all}
 use Rattle.inflow.specs.declared.Inflow.{Inflow}
 use Rattle.inflow.specs.declared.Flowed.{Flowed}
-use Rattle.inflow.specs.Inflow.{notTaken, ran, bufferAfter, flowedOf}
+use Rattle.inflow.specs.Inflow.{flowAnswer, ran, bufferAfter, flowedOf}
 
 module _ (f : Inflow) (b : List ℕ) (filled : ℕ) where
   -- what the call came to: its answer and the buffer
   abbrev pub Comes : Flowed → List ℕ → Type 0
   Comes r b₁ = (r ≡ flowedOf f b filled) × (b₁ ≡ bufferAfter f b filled)
 
-  pub flow-refused : notTaken f b filled ≡ true → Comes (record { answer = 1; flow = f }) b
+  pub flow-refused : (flowAnswer f b filled ≡ 0 → ⊥) → Comes (record { answer = flowAnswer f b filled; flow = f }) b
   unfolding flowedOf bufferAfter
-  flow-refused u = (sym (rw u), sym (rw u))
+  flow-refused z = let u = ne-eqb (flowAnswer f b filled) 0 z in (sym (rw u), sym (rw u))
 
-  module _ (u : notTaken f b filled ≡ false) where
+  module _ (a : flowAnswer f b filled ≡ 0) where
+    u : eqb (flowAnswer f b filled) 0 ≡ true
+    u = eq-eqb (flowAnswer f b filled) 0 a
+
     pub flow-over : f .dead ≡ true → Comes (record { answer = 0; flow = f }) b
     unfolding flowedOf bufferAfter
     flow-over d = (sym (rw (u, d)), sym (rw (u, d)))
 
     -- what is not refused
-    abbrev unsound : Bool
-    unsound = not (soundTable (f .table))
-
-    abbrev shortBuffer : Bool
-    shortBuffer = ltb (length b) filled
-
-    first-two : (unsound || shortBuffer) ≡ false
-    first-two = or-left (unsound || shortBuffer) (ltb mostRefused (f .refused)) u
+    clear-piece : (soundTable (f .table) ≡ true) × (f .refused ≤ mostRefused) × (filled ≤ length b)
+    clear-piece = piece-clear (soundTable (f .table)) (f .refused) (length b) filled a
 
     pub table-sound : soundTable (f .table) ≡ true
-    table-sound = not-false (soundTable (f .table)) (or-left unsound shortBuffer first-two)
-
-    pub buffer-long : filled ≤ length b
-    buffer-long = ltb-false (length b) filled (or-right unsound shortBuffer first-two)
+    table-sound = clear-piece .0
 
     pub refused-few : f .refused ≤ mostRefused
-    refused-few = ltb-false mostRefused (f .refused) (or-right (unsound || shortBuffer) (ltb mostRefused (f .refused)) u)
+    refused-few = clear-piece .1
+
+    pub buffer-long : filled ≤ length b
+    buffer-long = clear-piece .2
 
     pub stop-before : stopFrom (take filled b) 0 ≤ filled
     stop-before = omega (arith, stop-within (take filled b), length-take filled b)

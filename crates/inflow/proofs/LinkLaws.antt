@@ -4,28 +4,30 @@ use mathlib.Core.Path.{_≡_, refl, sym, ap, _∙_, subst}
 use Prim.Native.Nat.{ℕ, _+_, _<_, _≤_}
 use native.Mathlib.Omega.{arith}
 use native.Mathlib.Nat.{add-zero}
-use mathlib.Core.Bool.{Bool, true, false, _||_, not, cond}
+use mathlib.Core.Bool.{Bool, true, false, not, cond}
 use mathlib.Core.List.{List, [], _∷_, _++_}
-use lib.Dec.{ltb, eqb}
+use lib.Dec.{eqb}
 use lib.ListN.{length, getD, take, drop, take-append-drop}
 use lib.Seq.{take-take, length-take-le}
-use borrow.Author.Tests.{le-ltb}
+use borrow.Author.Tests.{eq-eqb}
 use Rattle.base.proofs.TestLaws.{Tested, holds, fails, test}
 use Rattle.wire.specs.Cut.{recordsOf, stopFrom, joined}
 use Rattle.feed.specs.Feed.{mostRefused, restOf, deadRest, moved, heldAfter}
+use Rattle.feed.proofs.FeedLaws.{end-goes-on}
 use Rattle.feed.proofs.LinkLaws.{rest-moved, dead-moved, moved-long, held-few}
 use Rattle.table.specs.declared.Table.{Table}
 use Rattle.table.specs.declared.Filed.{Filed}
 use Rattle.table.specs.Table.{soundTable, marked}
 use Rattle.table.proofs.AnswerLaws.{file-begins, file-refused}
+use Rattle.table.proofs.SoundLaws.{marked-sound}
 use Rattle.yearly.specs.declared.Reading.{Reading}
-use Rattle.yearly.specs.Yearly.{State, takeAll, afterFile, isBroken, fileOf}
+use Rattle.yearly.specs.Yearly.{State, starting, takeAll, afterFile, isBroken, fileOf}
 use Rattle.yearly.proofs.RunLaws.{run-sound, file-through, refused-below}
 use Rattle.inflow.specs.declared.Inflow.{Inflow}
 use Rattle.inflow.specs.declared.Flowed.{Flowed}
-use Rattle.inflow.specs.Inflow.{Pieces, beginning, fed, fedAll, fresh, begunOf, notTaken, stateOf, ran, bufferAfter, flowedOf, finishedOf}
+use Rattle.inflow.specs.Inflow.{Pieces, beginning, fed, fedAll, fresh, begunOf, flowAnswer, finishAnswer, stateOf, ran, bufferAfter, flowedOf, finishedOf}
 use Rattle.inflow.proofs.PieceLaws.{pieces-whole, fed-dead, fed-more}
-use Rattle.inflow.proofs.FlowLaws.{flow-refused, flow-over, table-sound, buffer-long, stop-before}
+use Rattle.inflow.proofs.FlowLaws.{flow-over, table-sound, buffer-long, stop-before}
 
 -- an inflow with its buffer holds a reading in pieces
 pub record Holding (f : Inflow) (b : List ℕ) (p : Pieces) : Type 0 where
@@ -34,7 +36,7 @@ pub record Holding (f : Inflow) (b : List ℕ) (p : Pieces) : Type 0 where
   pub dead : f .dead ≡ deadRest (p .rest) (length (p .rest))
   pub room : f .held ≤ length b
 
-module _ (f : Inflow) (b : List ℕ) (filled : ℕ) (u : notTaken f b filled ≡ false) where
+module _ (f : Inflow) (b : List ℕ) (filled : ℕ) (u : flowAnswer f b filled ≡ 0) where
   after-dead : f .dead ≡ true → (flowedOf f b filled ≡ record { answer = 0; flow = f }) × (bufferAfter f b filled ≡ b)
   after-dead d = let h = flow-over f b filled u d in (sym (h .0), sym (h .1))
 
@@ -53,7 +55,7 @@ module _ (f : Inflow) (b : List ℕ) (filled : ℕ) (u : notTaken f b filled ≡
       }) ×
       (bufferAfter f b filled ≡ moved b (stopFrom (take filled b) 0) filled)
   unfolding flowedOf bufferAfter
-  after-taken d = (rw (u, d), rw (u, d))
+  after-taken d = let t = eq-eqb (flowAnswer f b filled) 0 u in (rw (t, d), rw (t, d))
 
   module _ (p : Pieces) (h : Holding f b p) (within : f .held ≤ filled) where
     -- the bytes that follow those held
@@ -96,13 +98,17 @@ begun-holding t b s =
     let e = file-begins t s in
     (ap (λ (x : Filed). x .answer) e, subst (λ (x : Filed). Holding (fresh (x .table)) b (beginning (marked false t))) (sym e) (begins-holding (marked false t) b))
 
--- with an unsound table none is begun, and no piece is taken
+-- with an unsound table none is begun, no piece is taken, and there is no outcome
 pub none-begun : (t : Table) → soundTable t ≡ false → begunOf t ≡ record { answer = 1; flow = fresh t }
 none-begun t s = ap (λ (x : Filed). record { answer = x .answer; flow = fresh (x .table) }) (file-refused t s)
 
 pub none-taken : (f : Inflow) (b : List ℕ) (filled : ℕ) → soundTable (f .table) ≡ false → (flowedOf f b filled ≡ record { answer = 1; flow = f }) × (bufferAfter f b filled ≡ b)
-none-taken f b filled s =
-    let h = flow-refused f b filled (λ i. not (s i) || ltb (length b) filled || ltb mostRefused (f .refused)) in (sym (h .0), sym (h .1))
+unfolding flowedOf bufferAfter
+none-taken f b filled s = (rw s, rw s)
+
+pub none-finished : (f : Inflow) → soundTable (f .table) ≡ false → finishedOf f ≡ record { answer = 1; table = f .table; refused = f .refused; broken = false }
+unfolding finishedOf
+none-finished f s = rw s
 
 -- bytes may be put behind those held
 pub filled-up : (f : Inflow) (b b₁ : List ℕ) (p : Pieces) → Holding f b p → take (f .held) b₁ ≡ take (f .held) b → f .held ≤ length b₁ → Holding f b₁ p
@@ -124,15 +130,21 @@ module _ (t : Table) (ps : List (List ℕ)) (f : Inflow) (b : List ℕ) (h : Hol
   abbrev Outcome : State → Bool → Reading
   Outcome st broken = record { answer = 0; table = st .table; refused = st .refused + cond broken 1 0; broken = broken }
 
-  finish-either : (broken : Bool) → eqb (f .held) 0 ≡ not broken → f .refused ≤ mostRefused → finishedOf f ≡ Outcome (stateOf f) broken
+  finish-either : (broken : Bool) → eqb (f .held) 0 ≡ not broken → finishAnswer f ≡ 0 → finishedOf f ≡ Outcome (stateOf f) broken
   unfolding finishedOf
-  finish-either true e few = rw (le-ltb mostRefused (f .refused) few, e)
-  finish-either false e few =
-      rw (le-ltb mostRefused (f .refused) few, e) (λ i. record { answer = 0; table = f .table; refused = sym (add-zero (f .refused)) i; broken = false })
+  finish-either true e a = let z = eq-eqb (finishAnswer f) 0 a in rw (z, e)
+  finish-either false e a =
+      let z = eq-eqb (finishAnswer f) 0 a in
+      rw (z, e) (λ i. record { answer = 0; table = f .table; refused = sym (add-zero (f .refused)) i; broken = false })
+
+  -- the table of a file that was taken into a sound one is sound
+  table-whole : soundTable t ≡ true → soundTable (f .table) ≡ true
+  table-whole s = ap (λ (st : State). soundTable (st .table)) state-whole ∙ run-sound (starting (marked false t)) (recordsOf (joined ps)) (marked-sound t false ∙ s)
 
   pub finish-whole : f .refused ≤ mostRefused → soundTable t ≡ true → finishedOf f ≡ fileOf t (joined ps)
   finish-whole few s =
-      finish-either (isBroken (joined ps)) held-whole few ∙ ap (λ (st : State). Outcome st (isBroken (joined ps))) state-whole ∙
+      finish-either (isBroken (joined ps)) held-whole (end-goes-on (soundTable (f .table)) (f .refused) (table-whole s) few) ∙
+      ap (λ (st : State). Outcome st (isBroken (joined ps))) state-whole ∙
       sym (file-through t (joined ps) s)
 
   -- a file of at most 2^62 bytes has no more records than that
@@ -142,16 +154,16 @@ module _ (t : Table) (ps : List (List ℕ)) (f : Inflow) (b : List ℕ) (h : Hol
       omega (arith, refused-below (marked false t) (joined ps))
 
 -- an inflow whose bytes are not dead holds fewer than 65,535 after a call
-module _ (f : Inflow) (b : List ℕ) (filled : ℕ) (u : notTaken f b filled ≡ false) (bytes : (i : ℕ) → getD b i 0 < 256) where
+module _ (f : Inflow) (b : List ℕ) (filled : ℕ) (u : flowAnswer f b filled ≡ 0) (bytes : (i : ℕ) → getD b i 0 < 256) where
   pub flow-has-room : f .dead ≡ false → flowedOf f b filled .flow .dead ≡ false → flowedOf f b filled .flow .held < 65535
   flow-has-room d after =
       let t = after-taken f b filled u d in
       let held : flowedOf f b filled .flow .held ≡ heldAfter b filled = ap (λ (r : Flowed). r .flow .held) (t .0) in
       omega (arith, held-few b filled (buffer-long f b filled u) bytes (ap (λ (r : Flowed). r .flow .dead) (sym (t .0)) ∙ after))
 
--- a call that was not refused leaves the table sound and the buffer its size: a next one is refused only for its count of refused records or for a
--- `filled` past the buffer
-module _ (f : Inflow) (b : List ℕ) (filled : ℕ) (u : notTaken f b filled ≡ false) where
+-- a call that was answered 0 leaves the table sound and the buffer its size: a next one is refused only for its count of refused records (252) or for a
+-- `filled` past the buffer (253), and the end only for the count
+module _ (f : Inflow) (b : List ℕ) (filled : ℕ) (u : flowAnswer f b filled ≡ 0) where
   abbrev Fit : Flowed → List ℕ → Type 0
   Fit r b₁ = (soundTable (r .flow .table) ≡ true) × (length b₁ ≡ length b)
 

@@ -2,11 +2,11 @@
 -- can follow it and how it is moved to the front are as of a book in pieces (crate feed).
 use Prim.Native.Nat.{ℕ, _+_}
 use mathlib.Core.List.{List, [], _∷_, _++_}
-use mathlib.Core.Bool.{Bool, true, false, _||_, not, cond}
+use mathlib.Core.Bool.{true, false, cond}
 use lib.ListN.{length, take}
-use lib.Dec.{ltb, eqb}
+use lib.Dec.{eqb}
 use Rattle.wire.specs.Cut.{recordsOf, stopFrom}
-use Rattle.feed.specs.Feed.{restOf, deadRest, moved, mostRefused, heldAfter}
+use Rattle.feed.specs.Feed.{restOf, deadRest, moved, endAnswer, pieceAnswer, heldAfter}
 use Rattle.table.specs.declared.Table.{Table}
 use Rattle.table.specs.Table.{soundTable, fileBegun}
 use Rattle.yearly.specs.declared.Reading.{Reading}
@@ -40,9 +40,12 @@ fresh t = record { table = t; refused = 0; held = 0; dead = false }
 abbrev pub begunOf : Table → Flowed
 begunOf t = record { answer = fileBegun t .answer; flow = fresh (fileBegun t .table) }
 
--- what a piece is refused for
-abbrev pub notTaken : Inflow → List ℕ → ℕ → Bool
-notTaken f b filled = not (soundTable (f .table)) || ltb (length b) filled || ltb mostRefused (f .refused)
+-- what a piece is refused for, and the end: an unsound table (1), and as of a book in pieces
+abbrev pub flowAnswer : Inflow → List ℕ → ℕ → ℕ
+flowAnswer f b filled = pieceAnswer (soundTable (f .table)) (f .refused) (length b) filled
+
+abbrev pub finishAnswer : Inflow → ℕ
+finishAnswer f = endAnswer (soundTable (f .table)) (f .refused)
 
 abbrev pub stateOf : Inflow → State
 stateOf f = record { table = f .table; refused = f .refused }
@@ -51,11 +54,11 @@ abbrev pub ran : Inflow → List ℕ → ℕ → State
 ran f b filled = takeAll (stateOf f) (recordsOf (take filled b))
 
 unfoldable pub bufferAfter : Inflow → List ℕ → ℕ → List ℕ
-bufferAfter f b filled = cond (notTaken f b filled) b (cond (f .dead) b (moved b (stopFrom (take filled b) 0) filled))
+bufferAfter f b filled = cond (eqb (flowAnswer f b filled) 0) (cond (f .dead) b (moved b (stopFrom (take filled b) 0) filled)) b
 
 unfoldable pub flowedOf : Inflow → List ℕ → ℕ → Flowed
 flowedOf f b filled =
-    cond (notTaken f b filled) (record { answer = 1; flow = f })
+    cond (eqb (flowAnswer f b filled) 0)
     (cond (f .dead) (record { answer = 0; flow = f })
     (record {
       answer = 0;
@@ -67,11 +70,13 @@ flowedOf f b filled =
             dead = deadRest (moved b (stopFrom (take filled b) 0) filled) (heldAfter b filled);
           };
     }))
+    (record { answer = flowAnswer f b filled; flow = f })
 
--- once the input has ended: what is left over is a broken length, and counts as one refusal
+-- once the input has ended: an unsound table has no outcome; what is left over is a broken length, and counts as one refusal
 unfoldable pub finishedOf : Inflow → Reading
 finishedOf f =
-    cond (ltb mostRefused (f .refused)) (record { answer = 1; table = f .table; refused = f .refused; broken = false })
+    cond (eqb (finishAnswer f) 0)
     (cond (eqb (f .held) 0)
     (record { answer = 0; table = f .table; refused = f .refused; broken = false })
     (record { answer = 0; table = f .table; refused = f .refused + 1; broken = true }))
+    (record { answer = finishAnswer f; table = f .table; refused = f .refused; broken = false })

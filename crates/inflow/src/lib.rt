@@ -37,14 +37,16 @@ pub fn begin(table: Table) -> Flowed
     }
 }
 
-// Takes the whole records among the first `filled` bytes of the buffer. 1, and nothing changed, for an unsound table, a buffer that is shorter than
-// `filled`, or a count of refused records above `feed::MOST_REFUSED`.
+// Takes the whole records among the first `filled` bytes of the buffer. Nothing is changed where the answer is not 0: 1 for an unsound table,
+// `feed::MANY_REFUSED` for a count of refused records above `feed::MOST_REFUSED`, `feed::MORE_TOLD` for a buffer that is shorter than `filled`.
 pub fn take_piece(f: Inflow, buffer: &mut [u8], filled: usize) -> Flowed
     ensures { λ r. ⌜ (r ≡ flowedOf f (now (buffer .entry)) filled) × (now (buffer .exit) ≡ bufferAfter f (now (buffer .entry)) filled) ⌝ }
 {
     let t = f.table;
-    if !t.sound() | (buffer.len() < filled) | (feed::MOST_REFUSED < f.refused) {
-        return Flowed { answer: 1, flow: f };
+    let sound = t.sound();
+    let answer = feed::piece_answer(sound, f.refused, buffer.len(), filled);
+    if answer != 0 {
+        return Flowed { answer, flow: f };
     }
     if f.dead {
         return Flowed { answer: 0, flow: f };
@@ -64,15 +66,17 @@ pub fn take_piece(f: Inflow, buffer: &mut [u8], filled: usize) -> Flowed
     }
 }
 
-// The outcome once the input has ended: what is left over is a broken length, and counts as one refusal. 1 for a count of refused records above
-// `feed::MOST_REFUSED`.
+// The outcome once the input has ended: what is left over is a broken length, and counts as one refusal. 1 for an unsound table, `feed::MANY_REFUSED` for a
+// count of refused records above `feed::MOST_REFUSED`.
 pub fn finish(f: Inflow) -> Reading
     ensures { λ r. ⌜ r ≡ finishedOf f ⌝ }
 {
     let t = f.table;
-    if feed::MOST_REFUSED < f.refused {
+    let sound = t.sound();
+    let answer = feed::end_answer(sound, f.refused);
+    if answer != 0 {
         return Reading {
-            answer: 1,
+            answer,
             table: t,
             refused: f.refused,
             broken: false,

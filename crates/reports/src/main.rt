@@ -127,6 +127,24 @@ fn pieces() {
         ),
     );
     print_fed(
+        b"both of these",
+        feed::take_piece(
+            feed_of(empty, 4611686018427387905, 0, false),
+            &mut map,
+            &mut buffer,
+            11,
+        ),
+    );
+    print_fed(
+        b"all three",
+        feed::take_piece(
+            feed_of(unsound(), 4611686018427387905, 0, false),
+            &mut map,
+            &mut buffer,
+            11,
+        ),
+    );
+    print_fed(
         b"a record and two bytes",
         feed::take_piece(start, &mut map, &mut buffer, 6),
     );
@@ -165,6 +183,14 @@ fn ends() {
     print_read(
         b"too many refused",
         feed::finish(feed_of(empty, 4611686018427387905, 1, false)),
+    );
+    print_read(
+        b"an unsound ledger at the end",
+        feed::finish(feed_of(unsound(), 3, 1, false)),
+    );
+    print_read(
+        b"an unsound ledger, and too many refused",
+        feed::finish(feed_of(unsound(), 4611686018427387905, 0, false)),
     );
 }
 

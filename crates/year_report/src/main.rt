@@ -81,14 +81,14 @@ fn main() {
     let mut map = [0u8; 8192];
     let mut buffer = io::large_buffer();
     let input = read_book(&mut map, &mut buffer);
-    if input.failed {
+    let read = feed::finish(input.feed);
+    if input.failed | (read.answer != 0) {
         io::write_all(
             STDERR_FILENO,
             b"year_report: standard input cannot be read\n",
         );
         return;
     }
-    let read = feed::finish(input.feed);
     let report = report::report_of(read.ledger, read.refused);
     let text = report.text;
     let bytes = text.bytes;

@@ -1,33 +1,31 @@
--- The tests at the start are those of `unfed`. Where the piece is taken, the records are those of the first `filled` bytes, and what they leave over goes
+-- The answer is that of `fedAnswer`. Where the piece is taken, the records are those of the first `filled` bytes, and what they leave over goes
 -- to the front. Assumes nothing.
 use Prim.Native.Nat.{_+_, _-_, _≤_}
 use mathlib.Core.Path.{_≡_, sym, ap, _∙_, subst⁻¹}
-use mathlib.Core.Bool.{false, _||_, not}
+use mathlib.Core.Bool.{_&&_}
 use mathlib.Core.List.{List}
-use lib.Dec.{eqb, ltb}
+use lib.Dec.{eqb}
 use lib.ListN.{length, take}
 use native.Mathlib.Omega.{arith}
 use borrow.Author.Needs.{needs}
 use Rattle.book.specs.declared.Run.{Run}
 use Rattle.book.specs.Book.{runOf, afterBook}
-use Rattle.feed.specs.Feed.{deadRest, moved, unfed}
+use Rattle.feed.specs.Feed.{deadRest, moved, pieceAnswer, fedAnswer}
 use Rattle.feed.proofs.FeedLaws.{feed-refused, feed-over, feed-taken, map-long, ledger-sound, refused-few, stop-before, refused-of-piece}
 use Rattle.feed.proofs.take_piece.Statement.{statement}
 use Rattle.feed.proofs.take_piece.Tie as tie
 
--- the test at the start, with what `sound` answered
-tested :
-    (c : tie.After-sound) →
-    (not (eqb (length (c .before .before .before .before .args .map .now)) 8192) || not (c .sound .result) ||
-    ltb (length (c .before .before .before .before .args .buffer .now)) (c .before .before .before .before .args .filled) ||
-    ltb 4611686018427387904 (c .before .before .before .before .args .f .refused)) ≡
-    unfed (c .before .before .before .before .args .f) (c .before .before .before .before .args .map .now) (c .before .before .before .before .args .buffer .now) (c .before .before .before .before .args .filled)
-tested c =
-    let a = c .before .before .before .before .args in
-    λ i. not (eqb (length (a .map .now)) 8192) || not (c .sound .ensures i) || ltb (length (a .buffer .now)) (a .filled) || ltb 4611686018427387904 (a .f .refused)
+-- what is answered, with what `sound` answered
+told :
+    (c : tie.After-piece-answer) →
+    c .piece-answer .result ≡
+    fedAnswer (c .before .before .before .before .before .args .f) (c .before .before .before .before .before .args .map .now) (c .before .before .before .before .before .args .buffer .now) (c .before .before .before .before .before .args .filled)
+told c =
+    let a = c .before .before .before .before .before .args in
+    c .piece-answer .ensures ∙ (λ i. pieceAnswer (eqb (length (a .map .now)) 8192 && c .before .sound .ensures i) (a .f .refused) (length (a .buffer .now)) (a .filled))
 
-fine : (c : tie.Else1) → unfed (c .before .before .before .before .before .before .args .f) (c .before .before .before .before .before .before .args .map .now) (c .before .before .before .before .before .before .args .buffer .now) (c .before .before .before .before .before .before .args .filled) ≡ false
-fine c = sym (tested (c .before .before)) ∙ c .if1 .left
+fine : (c : tie.Else1) → fedAnswer (c .before .before .before .before .before .before .args .f) (c .before .before .before .before .before .before .args .map .now) (c .before .before .before .before .before .before .args .buffer .now) (c .before .before .before .before .before .before .args .filled) ≡ 0
+fine c = sym (told (c .before)) ∙ c .if1 .left
 
 -- the records that were taken are those of the first `filled` bytes
 piece : (c : tie.After-part) → c .part .result .now ≡ take (c .before .before .before .before .before .before .before .before .before .before .args .filled) (c .before .before .before .before .before .before .before .before .before .before .args .buffer .now)
@@ -42,10 +40,15 @@ run-is c = let a = c .before .before .before .before .before .before .before .be
 sound-requires : tie.Need-sound-requires
 sound-requires c κs = search needs
 
+piece-answer-requires : tie.Need-piece-answer-requires
+piece-answer-requires c κs = search needs
+
 returns : tie.Need-returns
 returns c =
     let a = c .before .before .before .before .before .before .args in
-    feed-refused (a .f) (a .map .now) (a .buffer .now) (a .filled) (sym (tested (c .before .before)) ∙ c .if1 .taken)
+    let e = told (c .before) in
+    let h = feed-refused (a .f) (a .map .now) (a .buffer .now) (a .filled) (λ x. c .if1 .taken (e ∙ x)) in
+    ((λ i. record { answer = e i; feed = a .f }) ∙ h .0, h .1, h .2)
 
 returns-2 : tie.Need-returns-2
 returns-2 c =
@@ -69,8 +72,8 @@ sub-held c =
 move-to-front-requires : tie.Need-move-to-front-requires
 move-to-front-requires c κs = search needs
 
-add-t27 : tie.Need-add-t27
-add-t27 c =
+add-t22 : tie.Need-add-t22
+add-t22 c =
     let a = c .before .before .before .before .before .before .before .before .before .before .before .before .before .before .before .before .before .before .before .before .before .args in
     let u = fine (c .before .before .before .before .before .before .before .before .before .before .before .before .before .before .before) in
     let few : c .before .before .before .before .before .before .before .before .before .before .take-records .result .refused ≤ length (a .buffer .now) =
@@ -110,13 +113,14 @@ take-piece-spec =
     tie.close
     (tie.spec
     sound-requires
+    piece-answer-requires
     returns
     returns-2
     part-requires
     take-records-requires
     sub-held
     move-to-front-requires
-    add-t27
+    add-t22
     is-dead-requires
     same-length
     same-length-2

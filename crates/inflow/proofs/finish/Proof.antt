@@ -1,25 +1,50 @@
 -- The three cases of `finishedOf`, one return each. Assumes nothing.
-use mathlib.Core.Path.{sym}
-use borrow.Author.Tests.{lt-ltb, le-ltb, eq-eqb, ne-eqb}
+use mathlib.Core.Path.{_≡_, sym, ap, _∙_}
+use mathlib.Core.Bool.{Bool, false}
+use native.Mathlib.Omega.{arith}
+use borrow.Author.Tests.{eq-eqb, ne-eqb}
 use borrow.Author.Needs.{needs}
-use Rattle.inflow.specs.Inflow.{finishedOf}
+use Rattle.feed.specs.Feed.{endAnswer}
+use Rattle.feed.proofs.FeedLaws.{end-clear}
+use Rattle.table.specs.Table.{soundTable}
+use Rattle.inflow.specs.Inflow.{finishAnswer, finishedOf}
 use Rattle.inflow.proofs.finish.Statement.{statement}
 use Rattle.inflow.proofs.finish.Tie as tie
 
+sound-requires : tie.Need-sound-requires
+sound-requires c κs = search needs
+
+end-answer-requires : tie.Need-end-answer-requires
+end-answer-requires c κs = search needs
+
+-- the answer is that of the inflow
+told : (c : tie.After-end-answer) → c .end-answer .result ≡ finishAnswer (c .before .before .before .args .f)
+told c = c .end-answer .ensures ∙ ap (λ (s : Bool). endAnswer s (c .before .before .before .args .f .refused)) (c .before .sound .ensures)
+
 returns : tie.Need-returns
 unfolding finishedOf
-returns c = sym (rw (lt-ltb _ _ (c .if1 .taken)))
+returns c =
+    let f = c .before .before .before .before .args .f in
+    let e = told (c .before) in
+    let z = ne-eqb (finishAnswer f) 0 (λ x. c .if1 .taken (e ∙ x)) in
+    (λ i. record { answer = e i; table = f .table; refused = f .refused; broken = false }) ∙ sym (rw z)
 
 returns-2 : tie.Need-returns-2
 unfolding finishedOf
-returns-2 c = sym (rw (le-ltb _ _ (c .before .before .if1 .left), eq-eqb _ _ (c .if2 .taken)))
+returns-2 c =
+    let z = eq-eqb (finishAnswer (c .before .before .before .before .before .before .args .f)) 0 (sym (told (c .before .before .before)) ∙ c .before .before .if1 .left) in
+    sym (rw (z, eq-eqb _ _ (c .if2 .taken)))
 
-add-t4 : tie.Need-add-t4
-add-t4 c = search needs
+add-t6 : tie.Need-add-t6
+add-t6 c =
+    let f = c .before .before .before .before .before .before .before .args .f in
+    omega (arith, end-clear (soundTable (f .table)) (f .refused) (sym (told (c .before .before .before .before)) ∙ c .before .before .before .if1 .left) .1)
 
 returns-3 : tie.Need-returns-3
 unfolding finishedOf
-returns-3 c = sym (rw (le-ltb _ _ (c .before .before .before .if1 .left), ne-eqb _ _ (c .before .if2 .left)))
+returns-3 c =
+    let z = eq-eqb (finishAnswer (c .before .before .before .before .before .before .before .args .f)) 0 (sym (told (c .before .before .before .before)) ∙ c .before .before .before .if1 .left) in
+    sym (rw (z, ne-eqb _ _ (c .before .if2 .left)))
 
 pub finish-spec : {M : Type 1} → statement M
-finish-spec = tie.close (tie.spec returns returns-2 add-t4 returns-3)
+finish-spec = tie.close (tie.spec sound-requires end-answer-requires returns returns-2 add-t6 returns-3)

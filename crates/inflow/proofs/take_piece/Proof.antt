@@ -1,29 +1,28 @@
--- The tests at the start are those of `notTaken`. Where the piece is taken, the records are those of the first `filled` bytes, and what they leave over
+-- The answer is that of `flowAnswer`. Where the piece is taken, the records are those of the first `filled` bytes, and what they leave over
 -- goes to the front. Assumes nothing.
 use Prim.Native.Nat.{_+_, _-_, _≤_}
 use mathlib.Core.Path.{_≡_, sym, ap, _∙_, subst⁻¹}
-use mathlib.Core.Bool.{false, _||_, not}
-use lib.Dec.{ltb}
 use lib.ListN.{length, take}
 use native.Mathlib.Omega.{arith}
 use borrow.Author.Needs.{needs}
-use Rattle.feed.specs.Feed.{deadRest, moved}
+use Rattle.feed.specs.Feed.{deadRest, moved, pieceAnswer}
 use Rattle.yearly.specs.declared.Run.{Run}
 use Rattle.yearly.specs.Yearly.{runOf}
-use Rattle.inflow.specs.Inflow.{notTaken}
+use Rattle.inflow.specs.Inflow.{flowAnswer}
 use Rattle.inflow.proofs.FlowLaws.{flow-refused, flow-over, flow-taken, refused-few, stop-before, refused-of-piece}
 use Rattle.inflow.proofs.take_piece.Statement.{statement}
 use Rattle.inflow.proofs.take_piece.Tie as tie
 
--- the test at the start, with what `sound` answered
-tested :
-    (c : tie.After-sound) →
-    (not (c .sound .result) || ltb (length (c .before .before .before .args .buffer .now)) (c .before .before .before .args .filled) || ltb 4611686018427387904 (c .before .before .before .args .f .refused)) ≡
-    notTaken (c .before .before .before .args .f) (c .before .before .before .args .buffer .now) (c .before .before .before .args .filled)
-tested c = let a = c .before .before .before .args in λ i. not (c .sound .ensures i) || ltb (length (a .buffer .now)) (a .filled) || ltb 4611686018427387904 (a .f .refused)
+-- what is answered, with what `sound` answered
+told :
+    (c : tie.After-piece-answer) →
+    c .piece-answer .result ≡ flowAnswer (c .before .before .before .before .args .f) (c .before .before .before .before .args .buffer .now) (c .before .before .before .before .args .filled)
+told c =
+    let a = c .before .before .before .before .args in
+    c .piece-answer .ensures ∙ (λ i. pieceAnswer (c .before .sound .ensures i) (a .f .refused) (length (a .buffer .now)) (a .filled))
 
-fine : (c : tie.Else1) → notTaken (c .before .before .before .before .before .args .f) (c .before .before .before .before .before .args .buffer .now) (c .before .before .before .before .before .args .filled) ≡ false
-fine c = sym (tested (c .before .before)) ∙ c .if1 .left
+fine : (c : tie.Else1) → flowAnswer (c .before .before .before .before .before .args .f) (c .before .before .before .before .before .args .buffer .now) (c .before .before .before .before .before .args .filled) ≡ 0
+fine c = sym (told (c .before)) ∙ c .if1 .left
 
 -- the records that were taken are those of the first `filled` bytes
 run-is : (c : tie.After-take-records) → c .take-records .result ≡ runOf (c .before .before .before .before .before .before .before .before .before .args .f .table) (take (c .before .before .before .before .before .before .before .before .before .args .filled) (c .before .before .before .before .before .before .before .before .before .args .buffer .now))
@@ -35,10 +34,15 @@ run-is c =
 sound-requires : tie.Need-sound-requires
 sound-requires c κs = search needs
 
+piece-answer-requires : tie.Need-piece-answer-requires
+piece-answer-requires c κs = search needs
+
 returns : tie.Need-returns
 returns c =
     let a = c .before .before .before .before .before .args in
-    flow-refused (a .f) (a .buffer .now) (a .filled) (sym (tested (c .before .before)) ∙ c .if1 .taken)
+    let e = told (c .before) in
+    let h = flow-refused (a .f) (a .buffer .now) (a .filled) (λ x. c .if1 .taken (e ∙ x)) in
+    ((λ i. record { answer = e i; flow = a .f }) ∙ h .0, h .1)
 
 returns-2 : tie.Need-returns-2
 returns-2 c =
@@ -59,8 +63,8 @@ sub-held c =
 move-to-front-requires : tie.Need-move-to-front-requires
 move-to-front-requires c κs = search needs
 
-add-t21 : tie.Need-add-t21
-add-t21 c =
+add-t18 : tie.Need-add-t18
+add-t18 c =
     let a = c .before .before .before .before .before .before .before .before .before .before .before .before .before .before .before .before .before .args in
     let u = fine (c .before .before .before .before .before .before .before .before .before .before .before .before) in
     let few : c .before .before .before .before .before .before .before .before .take-records .result .refused ≤ length (a .buffer .now) =
@@ -95,13 +99,14 @@ take-piece-spec =
     tie.close
     (tie.spec
     sound-requires
+    piece-answer-requires
     returns
     returns-2
     part-requires
     take-records-requires
     sub-held
     move-to-front-requires
-    add-t21
+    add-t18
     is-dead-requires
     same-length
     returns-3)
