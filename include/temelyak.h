@@ -51,7 +51,7 @@ typedef struct temelyak_cell {
     uint64_t half_minutes;
 } temelyak_cell;
 
-/* The ledger of a year. All words are 64 bits wide; a word too large for what it holds is refused (1). */
+/* The ledger of a year. All words are 64 bits wide; a word too large for what it holds, or another number of words, is refused (1). */
 typedef struct temelyak_ledger {
     uint64_t has_sheet;                                    /* 1 with a year sheet, 0 without */
     uint64_t year;                                         /* 2000 to 2099 */
@@ -104,7 +104,7 @@ enum { TEMELYAK_SET_UNNAMED = 0, TEMELYAK_SET_ALL = 1, TEMELYAK_SET_STD = 2 };
 /* ---- answers */
 enum {
     TEMELYAK_ACCEPTED = 0,
-    TEMELYAK_REFUSED_UNSOUND = 1,          /* map not 8,192 bytes, unsound ledger, desk not 32 slots or unsound, an output of another size */
+    TEMELYAK_REFUSED_UNSOUND = 1,          /* map not 8,192 bytes, unsound ledger, desk not 32 slots or unsound */
     TEMELYAK_REFUSED_FRAME = 2,            /* under 4 bytes, or stated length is not the record's length */
     TEMELYAK_REFUSED_KIND = 3,             /* kind not taken at this call */
     TEMELYAK_REFUSED_LENGTH = 4,           /* length wrong for the kind; step count not 1 to 64 or not matching the length */
@@ -122,6 +122,7 @@ enum {
     TEMELYAK_REFUSED_FULL_DESK = 16,       /* no slot is free */
     TEMELYAK_REFUSED_NOBODY = 17,          /* SAIFI or SAIDI with no customers, CAIDI with no customers interrupted */
     TEMELYAK_REFUSED_DIGITS = 18,          /* more than 6 decimals asked */
+    TEMELYAK_REFUSED_OUTPUT = 251,         /* an output of another number of words; looked at after 255 and 254, and before what is lent */
     TEMELYAK_REFUSED_HEADER = 254,         /* the caller was built with another header */
     TEMELYAK_REFUSED_NO_CODE = 255         /* an index, level or set code that names none; looked at before all else */
 };
@@ -130,7 +131,7 @@ enum {
 
 static inline uint64_t *temelyak_words(void *lent) { return (uint64_t *)lent; }
 
-/* Writes an empty ledger: no sheet, all zero. */
+/* Writes an empty ledger: no sheet, all zero. The ledger is an output only: of another number of words it is refused with 251. */
 uint32_t temelyak_empty(uint64_t header, uint64_t *ledger, size_t words);
 
 /* Takes one record of a book: kinds 1 (year sheet), 2 (simple event), 3 (stepped event). */

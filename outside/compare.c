@@ -12,7 +12,7 @@
 
 enum { DEFAULT_SEED = 20091117, RECORDS = 1150000, MESSAGES = 520000, BOOKS = 3000, DAYS = 160, NEARLY_SOUND = 60000, BOOK_ROOM = 4000000, MISUSE_IN = 40 };
 
-static const uint64_t every_answer[] = {0, 1, 2, 3, 4, 5, 6, 7, 8, 9, 10, 11, 12, 13, 14, 15, 16, 17, 18, 254, 255};
+static const uint64_t every_answer[] = {0, 1, 2, 3, 4, 5, 6, 7, 8, 9, 10, 11, 12, 13, 14, 15, 16, 17, 18, 251, 254, 255};
 
 /* ---- worlds that are lent */
 
@@ -329,6 +329,22 @@ static void every_misuse(void) {
             if (one_in(8)) one.digits = 7;
             both_call(&one);
         }
+}
+
+/* In which order: the code, the header, the output, and only then what is lent. A ledger that is written and not read is an output. */
+static void misuse_in_order(void) {
+    for (int what = 0; what < CALLS; what++) {
+        both_one one = both_right(what);
+        lend_for_sample(1);
+        one.words = 48;
+        both_expect("a ledger of 48 words", both_call(&one), what == CALL_EMPTY ? 251 : 1);
+        one.out_words = 3;
+        both_expect("and an output of 3", both_call(&one), what == CALL_TAKE || what == CALL_SERVE ? 1 : 251);
+        one.header++;
+        both_expect("and another header", both_call(&one), 254);
+        one.set = 3;
+        both_expect("and a set that is none", both_call(&one), what == CALL_INDEX || what == CALL_DECIMAL ? 255 : 254);
+    }
 }
 
 /* ---- just in and just out */
@@ -651,6 +667,7 @@ int main(int argc, char **argv) {
     every_figure_of_worlds(150);
     say("every index, level, set, digits");
     every_misuse();
+    misuse_in_order();
     say("wrong headers and lengths");
     years_and_totals();
     event_times();

@@ -68,6 +68,7 @@ static void constants(void) {
                                        TEMELYAK_REFUSED_FULL_DESK,  TEMELYAK_REFUSED_NOBODY,    TEMELYAK_REFUSED_DIGITS};
     for (unsigned k = 0; k < sizeof answers / sizeof *answers; k++) same("an answer", answers[k], k);
     same("answers", sizeof answers / sizeof *answers, 19);
+    same("an output of another size", TEMELYAK_REFUSED_OUTPUT, 251);
     same("another header", TEMELYAK_REFUSED_HEADER, 254);
     same("no such code", TEMELYAK_REFUSED_NO_CODE, 255);
     same("rows", TEMELYAK_ROWS, 7);

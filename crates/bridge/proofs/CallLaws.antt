@@ -1,9 +1,9 @@
 -- What the code of each call comes to is what its definition says: the ledger handed on stands for the words, and an output of another length is
--- refused with 1. Assumes nothing.
+-- refused with 251. Assumes nothing.
 use Prim.Native.Nat.{ℕ, min}
 use mathlib.Core.Path.{_≡_, refl, sym, ap, _∙_, subst⁻¹}
 use mathlib.Core.List.{List, [], _∷_}
-use mathlib.Core.Bool.{Bool, true, false, _&&_, cond, and-true, and-false}
+use mathlib.Core.Bool.{Bool, true, false, cond}
 use lib.ListN.{length, getD, drop}
 use lib.Dec.{ltb, eqb}
 use native.Mathlib.Nat.{min-eq-left, min-eq-right}
@@ -30,7 +30,7 @@ use Rattle.index.proofs.IndexLaws.{Way, unsound, sheetless, divides-by-nobody, 
 use Rattle.slot.specs.declared.Slot.{Slot}
 use Rattle.plan.specs.Serve.{messageAnswer, mapServed, deskServed, servedOf}
 use Rattle.words.specs.Words.{ledgerWords, wordsFit, ledgerIn, flagOf, wordsOf}
-use Rattle.words.specs.Header.{headerWord, headed, answered, ifAccepted}
+use Rattle.words.specs.Header.{headerWord, headed, answered, otherSize, answeredInto, ifAccepted}
 use Rattle.words.specs.Inside.{noLedger, lentLedger, written, settled}
 use Rattle.words.proofs.LentLaws.{lent-answer, lent-output, lent-words, lent-kept}
 use Rattle.naming.specs.Named.{indexNamed, levelNamed, setNamed, allNamed}
@@ -39,20 +39,20 @@ use Rattle.bridge.proofs.NoneLaws.{none-taken, none-read, none-served, 
 
 -- ---- outputs
 
--- the answer 1 leaves what was lent
-pub one-refused : {X : Type 0} (header : ℕ) (next same : X) → ifAccepted (headed header 1) next same ≡ same
-one-refused {X} header next same = go (eqb header headerWord)
+-- the answer 251 leaves what was lent
+pub size-refused : {X : Type 0} (header : ℕ) (next same : X) → ifAccepted (headed header otherSize) next same ≡ same
+size-refused {X} header next same = go (eqb header headerWord)
   where
-    go : (h : Bool) → ifAccepted (cond h 1 254) next same ≡ same
+    go : (h : Bool) → ifAccepted (cond h otherSize 254) next same ≡ same
     go true = refl
     go false = refl
 
--- an output of two words, and one of another length
-pub paired : (header : ℕ) (w p : Bool) (n : ℕ) → p ≡ true → answered header (w && p) n ≡ answered header w n
-paired header w p n e = ap (λ t. answered header t n) (ap (λ t. w && t) e ∙ and-true w)
+-- an output of its size, and one of another
+pub paired : (header : ℕ) (p w : Bool) (n : ℕ) → p ≡ true → answeredInto header p w n ≡ answered header w n
+paired header p w n e = ap (λ t. answeredInto header t w n) e
 
-pub unpaired : (header : ℕ) (w p : Bool) (n : ℕ) → p ≡ false → answered header (w && p) n ≡ headed header 1
-unpaired header w p n e = ap (λ t. answered header t n) (ap (λ t. w && t) e ∙ and-false w)
+pub unpaired : (header : ℕ) (p w : Bool) (n : ℕ) → p ≡ false → answeredInto header p w n ≡ headed header otherSize
+unpaired header p w n e = ap (λ t. answeredInto header t w n) e
 
 -- accepted here is accepted behind
 pub behind-accepts : (header : ℕ) (w : Bool) (n : ℕ) → answered header w n ≡ 0 → (header ≡ headerWord) × (w ≡ true) × (n ≡ 0)
@@ -62,6 +62,13 @@ behind-accepts header w n e = go (eqb header headerWord) refl w e
     go true h true e = (eqb-true header headerWord h, refl, e)
     go true h false e = absurd (eqb-false 1 0 refl e)
     go false h t e = absurd (eqb-false 254 0 refl e)
+
+pub into-accepts : (header : ℕ) (p w : Bool) (n : ℕ) → answeredInto header p w n ≡ 0 → (p ≡ true) × (header ≡ headerWord) × (w ≡ true) × (n ≡ 0)
+into-accepts header p w n e = go (test p)
+  where
+    go : Tested p → (p ≡ true) × (header ≡ headerWord) × (w ≡ true) × (n ≡ 0)
+    go (holds t) = let b = behind-accepts header w n (sym (paired header p w n t) ∙ e) in (t, b .0, b .1, b .2)
+    go (fails t) = absurd (eqb-false 251 0 refl (behind-accepts header true otherSize (sym (unpaired header p w n t) ∙ e) .2))
 
 -- what is written counts only where the answer is 0
 pub as-accepted : {X : Type 0} (answer : ℕ) (x y same : X) → (answer ≡ 0 → x ≡ y) → ifAccepted answer x same ≡ ifAccepted answer y same
@@ -74,15 +81,15 @@ as-accepted {X} answer x y same f = go (eqb answer 0) refl
 -- ---- temelyak_empty
 
 module _ (header : ℕ) (ws : List ℕ) where
-  pub empty-unsized : eqb (length ws) ledgerWords ≡ false → (headed header 1 ≡ emptyAnswer header ws) × (ws ≡ emptyWords header ws)
+  pub empty-unsized : eqb (length ws) ledgerWords ≡ false → (headed header otherSize ≡ emptyAnswer header ws) × (ws ≡ emptyWords header ws)
   unfolding emptyAnswer emptyWords
   empty-unsized e =
-      let a = ap (λ t. answered header t 0) e in
-      (sym a, sym (ap (λ n. ifAccepted n (wordsOf emptyLedger) ws) a ∙ one-refused header (wordsOf emptyLedger) ws))
+      let a : emptyAnswer header ws ≡ headed header otherSize = rw e in
+      (sym a, sym (ap (λ n. ifAccepted n (wordsOf emptyLedger) ws) a ∙ size-refused header (wordsOf emptyLedger) ws))
 
   pub empty-answer-is : eqb (length ws) ledgerWords ≡ true → headed header 0 ≡ emptyAnswer header ws
   unfolding emptyAnswer
-  empty-answer-is e = sym (ap (λ t. answered header t 0) e)
+  empty-answer-is e = sym (rw e)
 
   pub empty-words-is : eqb (length ws) ledgerWords ≡ true → settled header ws (record { answer = 0; ledger = emptyLedger }) ≡ emptyWords header ws
   unfolding settled written emptyWords
@@ -135,7 +142,7 @@ readPair r = r .refused ∷ flagOf (r .broken) ∷ []
 module _ (header : ℕ) (ws m b out : List ℕ) (p : isPair out ≡ true) where
   one-test : bookAnswer header ws m b out ≡ answered header (wordsFit ws) (readOf (ledgerIn ws) m b .answer)
   unfolding bookAnswer
-  one-test = paired header (wordsFit ws) (isPair out) (readOf (ledgerIn ws) m b .answer) p
+  one-test = rw p
 
   pub book-answer-is : headed header (readOf (lentLedger header ws) m b .answer) ≡ bookAnswer header ws m b out
   book-answer-is = lent-answer header ws (λ l. readOf l m b .answer) (none-read m b) ∙ sym one-test
@@ -154,16 +161,16 @@ module _ (header : ℕ) (ws m b out : List ℕ) (p : isPair out ≡ true) where
 
 -- an output of another length
 module _ (header : ℕ) (ws m b out : List ℕ) (p : isPair out ≡ false) where
-  pub book-unpaired : headed header 1 ≡ bookAnswer header ws m b out
+  pub book-unpaired : headed header otherSize ≡ bookAnswer header ws m b out
   unfolding bookAnswer
-  book-unpaired = sym (unpaired header (wordsFit ws) (isPair out) (readOf (ledgerIn ws) m b .answer) p)
+  book-unpaired = sym (rw p)
 
   pub book-left : (ws ≡ bookWords header ws m b out) × (m ≡ bookMap header ws m b out) × (out ≡ bookOut header ws m b out)
   unfolding bookWords bookMap bookOut
   book-left = (left _ ws, left _ m, left _ out)
     where
       left : {X : Type 0} (next same : X) → same ≡ ifAccepted (bookAnswer header ws m b out) next same
-      left next same = sym (ap (λ n. ifAccepted n next same) (sym book-unpaired) ∙ one-refused header next same)
+      left next same = sym (ap (λ n. ifAccepted n next same) (sym book-unpaired) ∙ size-refused header next same)
 
 -- ---- temelyak_index and temelyak_decimal
 
@@ -173,12 +180,12 @@ pairIn ns = getD ns 1 0 ∷ getD ns 2 0 ∷ []
 
 -- what is answered of them
 abbrev answeredBy : ℕ → List ℕ → List ℕ → List ℕ → ℕ
-answeredBy header ws out ns = answered header (wordsFit ws && isPair out) (getD ns 0 0)
+answeredBy header ws out ns = answeredInto header (isPair out) (wordsFit ws) (getD ns 0 0)
 
 -- a call whose numbers are a function of the ledger it gets: answer first, then two, where the answer is 0
 module _ (nums : Ledger → List ℕ) (none : getD (nums noLedger) 0 0 ≡ 1) (two : (l : Ledger) → getD (nums l) 0 0 ≡ 0 → pairIn (nums l) ≡ drop 1 (nums l)) (header : ℕ) (ws out : List ℕ) where
   asked-paired : isPair out ≡ true → answeredBy header ws out (nums (ledgerIn ws)) ≡ answered header (wordsFit ws) (getD (nums (ledgerIn ws)) 0 0)
-  asked-paired p = paired header (wordsFit ws) (isPair out) (getD (nums (ledgerIn ws)) 0 0) p
+  asked-paired p = paired header (isPair out) (wordsFit ws) (getD (nums (ledgerIn ws)) 0 0) p
 
   numbers-answer : isPair out ≡ true → headed header (getD (nums (lentLedger header ws)) 0 0) ≡ answeredBy header ws out (nums (ledgerIn ws))
   numbers-answer p = lent-answer header ws (λ l. getD (nums l) 0 0) none ∙ sym (asked-paired p)
@@ -190,10 +197,10 @@ module _ (nums : Ledger → List ℕ) (none : getD (nums noLedger) 0 0 ≡ 1) (t
       (λ e. two (ledgerIn ws) (behind-accepts header (wordsFit ws) (getD (nums (ledgerIn ws)) 0 0) e .2)) ∙
       ap (λ n. ifAccepted n (drop 1 (nums (ledgerIn ws))) out) (sym (asked-paired p))
 
-  numbers-unpaired : isPair out ≡ false → (headed header 1 ≡ answeredBy header ws out (nums (ledgerIn ws))) × (out ≡ ifAccepted (answeredBy header ws out (nums (ledgerIn ws))) (drop 1 (nums (ledgerIn ws))) out)
+  numbers-unpaired : isPair out ≡ false → (headed header otherSize ≡ answeredBy header ws out (nums (ledgerIn ws))) × (out ≡ ifAccepted (answeredBy header ws out (nums (ledgerIn ws))) (drop 1 (nums (ledgerIn ws))) out)
   numbers-unpaired p =
-      let e = unpaired header (wordsFit ws) (isPair out) (getD (nums (ledgerIn ws)) 0 0) p in
-      (sym e, sym (ap (λ n. ifAccepted n (drop 1 (nums (ledgerIn ws))) out) e ∙ one-refused header (drop 1 (nums (ledgerIn ws))) out))
+      let e = unpaired header (isPair out) (wordsFit ws) (getD (nums (ledgerIn ws)) 0 0) p in
+      (sym e, sym (ap (λ n. ifAccepted n (drop 1 (nums (ledgerIn ws))) out) e ∙ size-refused header (drop 1 (nums (ledgerIn ws))) out))
 
 -- an index that is answered 0 is a fraction
 pub exact-pair : (l : Ledger) (index : Index) (level : Level) (set : Set) → getD (exactly (indexOf l index level set)) 0 0 ≡ 0 → pairIn (exactly (indexOf l index level set)) ≡ drop 1 (exactly (indexOf l index level set))
@@ -284,7 +291,7 @@ module _ (header : ℕ) (ws : List ℕ) (index level set : ℕ) (out : List ℕ)
       numbers-out indexNumbers (none-exact (indexNamed index) (levelNamed level) (setNamed set)) (λ l. exact-pair l (indexNamed index) (levelNamed level) (setNamed set)) header ws out p ∙ ap (λ n. ifAccepted n (drop 1 (indexNumbers (ledgerIn ws))) out) index-named,
     )
 
-    pub index-unpaired : isPair out ≡ false → (headed header 1 ≡ indexAnswer header ws index level set out) × (out ≡ indexOut header ws index level set out)
+    pub index-unpaired : isPair out ≡ false → (headed header otherSize ≡ indexAnswer header ws index level set out) × (out ≡ indexOut header ws index level set out)
     unfolding indexOut
     index-unpaired p =
         let u = numbers-unpaired indexNumbers (none-exact (indexNamed index) (levelNamed level) (setNamed set)) (λ l. exact-pair l (indexNamed index) (levelNamed level) (setNamed set)) header ws out p in
@@ -312,7 +319,7 @@ module _ (header : ℕ) (ws : List ℕ) (index level set digits : ℕ) (out : Li
       numbers-out decimalNumbers (none-shown (indexNamed index) (levelNamed level) (setNamed set) digits) (λ l. decimal-pair l (indexNamed index) (levelNamed level) (setNamed set) digits) header ws out p ∙ ap (λ n. ifAccepted n (drop 1 (decimalNumbers (ledgerIn ws))) out) decimal-named,
     )
 
-    pub decimal-unpaired : isPair out ≡ false → (headed header 1 ≡ decimalAnswer header ws index level set digits out) × (out ≡ decimalOut header ws index level set digits out)
+    pub decimal-unpaired : isPair out ≡ false → (headed header otherSize ≡ decimalAnswer header ws index level set digits out) × (out ≡ decimalOut header ws index level set digits out)
     unfolding decimalOut
     decimal-unpaired p =
         let u = numbers-unpaired decimalNumbers (none-shown (indexNamed index) (levelNamed level) (setNamed set) digits) (λ l. decimal-pair l (indexNamed index) (levelNamed level) (setNamed set) digits) header ws out p in

@@ -40,7 +40,7 @@ use Rattle.words.specs.Words.{wordsFit, ledgerIn, wordsOf, Fitting}
 use Rattle.words.proofs.WordsBack.{words-back, held-fits}
 use Rattle.words.proofs.LentLaws.{accepted-is}
 use Rattle.bridge.specs.Calls.{isPair, emptyAnswer, emptyWords, takeAnswer, takeWords, bookAnswer, bookWords, serveAnswer, serveWords}
-use Rattle.bridge.proofs.CallLaws.{behind-accepts}
+use Rattle.bridge.proofs.CallLaws.{behind-accepts, into-accepts}
 
 -- ---- a sheet's numbers
 
@@ -196,8 +196,8 @@ take-goes-on header ws m s a =
 pub book-goes-on : (header : ℕ) (ws m b out : List ℕ) → bookAnswer header ws m b out ≡ 0 → Holds (bookWords header ws m b out) (readOf (ledgerIn ws) m b .ledger)
 unfolding bookWords bookAnswer
 book-goes-on header ws m b out a =
-    let behind = behind-accepts header (wordsFit ws && isPair out) (readOf (ledgerIn ws) m b .answer) a in
-    written-holds (bookWords header ws m b out) (readOf (ledgerIn ws) m b .ledger) (read-fits (ledgerIn ws) m b (held-fits ws (and-left (wordsFit ws) (isPair out) (behind .1))))
+    let behind = into-accepts header (isPair out) (wordsFit ws) (readOf (ledgerIn ws) m b .answer) a in
+    written-holds (bookWords header ws m b out) (readOf (ledgerIn ws) m b .ledger) (read-fits (ledgerIn ws) m b (held-fits ws (behind .2)))
     (accepted-is (bookAnswer header ws m b out) (wordsOf (readOf (ledgerIn ws) m b .ledger)) ws a)
 
 pub serve-goes-on : (header : ℕ) (ws m : List ℕ) (d : List Slot) (s : List ℕ) → serveAnswer header ws m d s ≡ 0 → Holds (serveWords header ws m d s) (ledgerServed (ledgerIn ws) m d s)

@@ -2,15 +2,14 @@
 use Prim.Native.Nat.{ℕ}
 use mathlib.Core.Path.{_≡_, ap, _∙_}
 use mathlib.Core.List.{List}
-use mathlib.Core.Bool.{Bool, true, _&&_, cond}
-use lib.ListN.{length, getD}
-use lib.Dec.{eqb}
+use mathlib.Core.Bool.{true, cond}
+use lib.ListN.{getD}
 use borrow.Author.Tests.{ne-eqb}
 use Rattle.decimal.specs.Decimal.{decimally}
 use Rattle.index.specs.Index.{exactly}
 use Rattle.slot.specs.declared.Slot.{Slot}
 use Rattle.words.specs.Words.{wordsFit}
-use Rattle.words.specs.Header.{headerWord, answered}
+use Rattle.words.specs.Header.{headerWord, headed, answeredInto}
 use Rattle.words.proofs.LentLaws.{refused-is}
 use Rattle.naming.specs.Named.{allNamed}
 use Rattle.bridge.specs.Calls.{isPair, indexAsked, decimalAsked, emptyAnswer, emptyWords, takeAnswer, takeWords, takeMap, bookAnswer, bookWords, bookMap, bookOut, serveAnswer, serveWords, serveMap, serveDesk, indexAnswer, indexOut, decimalAnswer, decimalOut}
@@ -45,34 +44,34 @@ decimal-refused-same header ws index level set digits out z = refused-is (decima
 
 -- ---- another header
 
-other-header : (header : ℕ) (w : Bool) (n : ℕ) → (header ≡ headerWord → ⊥) → answered header w n ≡ 254
-other-header header w n z = ap (λ t. cond t (cond w n 1) 254) (ne-eqb header headerWord z)
+other-header : (header n : ℕ) → (header ≡ headerWord → ⊥) → headed header n ≡ 254
+other-header header n z = ap (λ t. cond t n 254) (ne-eqb header headerWord z)
 
 module _ (header : ℕ) (z : header ≡ headerWord → ⊥) where
   pub empty-other-header : (ws : List ℕ) → emptyAnswer header ws ≡ 254
   unfolding emptyAnswer
-  empty-other-header ws = other-header header (eqb (length ws) 49) 0 z
+  empty-other-header ws = other-header header _ z
 
   pub take-other-header : (ws m s : List ℕ) → takeAnswer header ws m s ≡ 254
   unfolding takeAnswer
-  take-other-header ws m s = other-header header (wordsFit ws) _ z
+  take-other-header ws m s = other-header header _ z
 
   pub book-other-header : (ws m b out : List ℕ) → bookAnswer header ws m b out ≡ 254
   unfolding bookAnswer
-  book-other-header ws m b out = other-header header (wordsFit ws && isPair out) _ z
+  book-other-header ws m b out = other-header header _ z
 
   pub serve-other-header : (ws m : List ℕ) (d : List Slot) (s : List ℕ) → serveAnswer header ws m d s ≡ 254
   unfolding serveAnswer
-  serve-other-header ws m d s = other-header header (wordsFit ws) _ z
+  serve-other-header ws m d s = other-header header _ z
 
   pub index-other-header : (ws : List ℕ) (index level set : ℕ) (out : List ℕ) → allNamed index level set ≡ true → indexAnswer header ws index level set out ≡ 254
   unfolding indexAnswer
   index-other-header ws index level set out e =
       let n = getD (exactly (indexAsked ws index level set)) 0 0 in
-      ap (λ t. cond t (answered header (wordsFit ws && isPair out) n) 255) e ∙ other-header header (wordsFit ws && isPair out) n z
+      ap (λ t. cond t (answeredInto header (isPair out) (wordsFit ws) n) 255) e ∙ other-header header _ z
 
   pub decimal-other-header : (ws : List ℕ) (index level set digits : ℕ) (out : List ℕ) → allNamed index level set ≡ true → decimalAnswer header ws index level set digits out ≡ 254
   unfolding decimalAnswer
   decimal-other-header ws index level set digits out e =
       let n = getD (decimally (decimalAsked ws index level set digits)) 0 0 in
-      ap (λ t. cond t (answered header (wordsFit ws && isPair out) n) 255) e ∙ other-header header (wordsFit ws && isPair out) n z
+      ap (λ t. cond t (answeredInto header (isPair out) (wordsFit ws) n) 255) e ∙ other-header header _ z

@@ -1,7 +1,7 @@
 -- What each call of include/temelyak.h answers, and what it leaves in all that was lent, by the call behind it.
 use Prim.Native.Nat.{ℕ}
 use mathlib.Core.List.{List, [], _∷_}
-use mathlib.Core.Bool.{Bool, _&&_, cond}
+use mathlib.Core.Bool.{Bool, true, cond}
 use lib.ListN.{length, getD, drop}
 use lib.Dec.{eqb}
 use Rattle.marks.specs.Marks.{mapSize}
@@ -17,17 +17,17 @@ use Rattle.slot.specs.declared.Slot.{Slot}
 use Rattle.roll.specs.Desk.{slotCount}
 use Rattle.plan.specs.Serve.{messageAnswer, ledgerServed, mapServed, deskServed}
 use Rattle.words.specs.Words.{ledgerWords, wordsFit, ledgerIn, flagOf, wordsOf}
-use Rattle.words.specs.Header.{version, slotBytes, answered, ifAccepted}
+use Rattle.words.specs.Header.{version, slotBytes, answered, answeredInto, ifAccepted}
 use Rattle.naming.specs.Named.{indexNamed, levelNamed, setNamed, allNamed}
 
 -- an output of two words
 abbrev pub isPair : List ℕ → Bool
 isPair out = eqb (length out) 2
 
--- ---- temelyak_empty
+-- ---- temelyak_empty: words ws, an output only, so that any content is written over
 
 unfoldable pub emptyAnswer : ℕ → List ℕ → ℕ
-emptyAnswer header ws = answered header (eqb (length ws) ledgerWords) 0
+emptyAnswer header ws = answeredInto header (eqb (length ws) ledgerWords) true 0
 
 unfoldable pub emptyWords : ℕ → List ℕ → List ℕ
 emptyWords header ws = ifAccepted (emptyAnswer header ws) (wordsOf emptyLedger) ws
@@ -49,7 +49,7 @@ abbrev pub bookRead : List ℕ → List ℕ → List ℕ → Read
 bookRead ws m b = readOf (ledgerIn ws) m b
 
 unfoldable pub bookAnswer : ℕ → List ℕ → List ℕ → List ℕ → List ℕ → ℕ
-bookAnswer header ws m b out = answered header (wordsFit ws && isPair out) (bookRead ws m b .answer)
+bookAnswer header ws m b out = answeredInto header (isPair out) (wordsFit ws) (bookRead ws m b .answer)
 
 unfoldable pub bookWords : ℕ → List ℕ → List ℕ → List ℕ → List ℕ → List ℕ
 bookWords header ws m b out = ifAccepted (bookAnswer header ws m b out) (wordsOf (bookRead ws m b .ledger)) ws
@@ -82,7 +82,7 @@ indexAsked ws index level set = indexOf (ledgerIn ws) (indexNamed index) (levelN
 
 unfoldable pub indexAnswer : ℕ → List ℕ → ℕ → ℕ → ℕ → List ℕ → ℕ
 indexAnswer header ws index level set out =
-    cond (allNamed index level set) (answered header (wordsFit ws && isPair out) (getD (exactly (indexAsked ws index level set)) 0 0)) 255
+    cond (allNamed index level set) (answeredInto header (isPair out) (wordsFit ws) (getD (exactly (indexAsked ws index level set)) 0 0)) 255
 
 -- top and bottom
 unfoldable pub indexOut : ℕ → List ℕ → ℕ → ℕ → ℕ → List ℕ → List ℕ
@@ -93,7 +93,7 @@ decimalAsked ws index level set digits = shownIndex (ledgerIn ws) (indexNamed in
 
 unfoldable pub decimalAnswer : ℕ → List ℕ → ℕ → ℕ → ℕ → ℕ → List ℕ → ℕ
 decimalAnswer header ws index level set digits out =
-    cond (allNamed index level set) (answered header (wordsFit ws && isPair out) (getD (decimally (decimalAsked ws index level set digits)) 0 0)) 255
+    cond (allNamed index level set) (answeredInto header (isPair out) (wordsFit ws) (getD (decimally (decimalAsked ws index level set digits)) 0 0)) 255
 
 -- the whole part and the digits
 unfoldable pub decimalOut : ℕ → List ℕ → ℕ → ℕ → ℕ → ℕ → List ℕ → List ℕ

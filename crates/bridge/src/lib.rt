@@ -13,7 +13,7 @@ pub extern "C" fn temelyak_empty(header: u64, ledger: &mut [u64]) -> u32
     ensures { λ r. ⌜ (r ≡ emptyAnswer header (now (ledger .entry))) × (now (ledger .exit) ≡ emptyWords header (now (ledger .entry))) ⌝ }
 {
     if ledger.len() != words::WORDS {
-        return words::answer_by(header, 1);
+        return words::answer_by(header, words::OTHER_SIZE);
     }
     words::settle(
         header,
@@ -51,7 +51,7 @@ pub extern "C" fn temelyak_take_book(
     ensures { λ r. ⌜ (r ≡ bookAnswer header (now (ledger .entry)) (now (map .entry)) (now (bytes .entry)) (now (out .entry))) × (now (ledger .exit) ≡ bookWords header (now (ledger .entry)) (now (map .entry)) (now (bytes .entry)) (now (out .entry))) × (now (map .exit) ≡ bookMap header (now (ledger .entry)) (now (map .entry)) (now (bytes .entry)) (now (out .entry))) × (now (out .exit) ≡ bookOut header (now (ledger .entry)) (now (map .entry)) (now (bytes .entry)) (now (out .entry))) ⌝ }
 {
     if out.len() != 2 {
-        return words::answer_by(header, 1);
+        return words::answer_by(header, words::OTHER_SIZE);
     }
     let read = book::take_book(words::lent_ledger(header, &ledger[..]), map, bytes);
     let next = read.ledger;
@@ -106,7 +106,7 @@ pub extern "C" fn temelyak_index(
         return 255;
     }
     if out.len() != 2 {
-        return words::answer_by(header, 1);
+        return words::answer_by(header, words::OTHER_SIZE);
     }
     let lent = words::lent_ledger(header, ledger);
     let answer = index::index_of(
@@ -135,7 +135,7 @@ pub extern "C" fn temelyak_decimal(
         return 255;
     }
     if out.len() != 2 {
-        return words::answer_by(header, 1);
+        return words::answer_by(header, words::OTHER_SIZE);
     }
     let lent = words::lent_ledger(header, ledger);
     let shown = index::decimal_of(

@@ -19,6 +19,9 @@ const HEADER: u64 = 4298178632;
 // How many words a ledger has.
 pub const WORDS: usize = 49;
 
+// What is answered where an output has another size.
+pub const OTHER_SIZE: u8 = 251;
+
 // An answer number, and two numbers that are written where it is 0.
 pub struct Pair {
     pub answer: u8,
