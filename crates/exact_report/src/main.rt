@@ -8,6 +8,7 @@ use ledger::Ledger;
 use libc::STDERR_FILENO;
 use libc::STDIN_FILENO;
 use libc::STDOUT_FILENO;
+use text::Text;
 
 // More pieces than any file has: 2^40. Past them the reading has failed.
 const MOST_PIECES: u64 = 1099511627776;
@@ -81,62 +82,89 @@ fn read_book(map: &mut [u8], buffer: &mut [u8]) -> Input {
     Input { feed, failed: true }
 }
 
-// ---- figures
-
-fn say(words: &[u8]) {
-    io::write_all(STDOUT_FILENO, words);
-}
+// ---- figures: each function answers the text with what it says of the ledger
 
 // A space, and a fraction or - where it is refused.
-fn say_index(ledger: Ledger, index: Index, level: Level, set: Set) {
-    say(b" ");
+fn with_index(t: Text, ledger: Ledger, index: Index, level: Level, set: Set) -> Text {
+    let begun = t.with_byte(b' ');
     match index::index_of(ledger, index, level, set) {
-        Answer::Is(f) => {
-            io::print_decimal(STDOUT_FILENO, f.top);
-            say(b"/");
-            io::print_decimal(STDOUT_FILENO, f.bottom);
-        }
-        Answer::Refused(_) => say(b"-"),
+        Answer::Is(f) => begun
+            .with_number(f.top)
+            .with_byte(b'/')
+            .with_number(f.bottom),
+        Answer::Refused(_) => begun.with_byte(b'-'),
     }
 }
 
 // One line: level and set, then SAIFI, SAIDI and CAIDI.
-fn say_line(words: &[u8], ledger: Ledger, level: Level, set: Set) {
-    say(words);
-    say_index(ledger, Index::Saifi, level, set);
-    say_index(ledger, Index::Saidi, level, set);
-    say_index(ledger, Index::Caidi, level, set);
-    say(b"\n");
+fn line(words: &[u8], ledger: Ledger, level: Level, set: Set) -> Text {
+    let begun = Text::empty().with_words(words);
+    let saifi = with_index(begun, ledger, Index::Saifi, level, set);
+    let saidi = with_index(saifi, ledger, Index::Saidi, level, set);
+    with_index(saidi, ledger, Index::Caidi, level, set).with_byte(b'\n')
 }
 
-fn say_lines(ledger: Ledger) {
-    say_line(b"NN all", ledger, Level::NN, Set::All);
-    say_line(b"VN all", ledger, Level::VN, Set::All);
-    say_line(b"VVN all", ledger, Level::VVN, Set::All);
-    say_line(b"SYS all", ledger, Level::Network, Set::All);
-    say_line(b"NN std", ledger, Level::NN, Set::Std);
-    say_line(b"VN std", ledger, Level::VN, Set::Std);
-    say_line(b"VVN std", ledger, Level::VVN, Set::Std);
-    say_line(b"SYS std", ledger, Level::Network, Set::Std);
-}
-
-fn say_number(words: &[u8], n: u64) {
-    say(words);
-    io::print_decimal(STDOUT_FILENO, n);
+// The year, or - without a sheet.
+fn with_year(t: Text, ledger: Ledger) -> Text {
+    let sheet = ledger.sheet;
+    if sheet.there {
+        return t.with_number(sheet.year as u64);
+    }
+    t.with_byte(b'-')
 }
 
 // The first line, as in the year report.
-fn say_head(ledger: Ledger, refused: u64) {
+fn head(ledger: Ledger, refused: u64) -> Text {
+    with_year(Text::empty().with_words(b"year "), ledger)
+        .with_words(b" events ")
+        .with_number(ledger.events as u64)
+        .with_words(b" short ")
+        .with_number(ledger.short as u64)
+        .with_words(b" refused ")
+        .with_number(refused)
+        .with_byte(b'\n')
+}
+
+// ---- writing: each function answers whether all could be written
+
+fn say(t: Text) -> bool {
+    let bytes = t.bytes;
+    io::write_all(STDOUT_FILENO, wire::part(&bytes, 0, t.len))
+}
+
+fn say_set(ledger: Ledger, set: Set, nn: &[u8], vn: &[u8], vvn: &[u8], network: &[u8]) -> bool {
+    say(line(nn, ledger, Level::NN, set))
+        & say(line(vn, ledger, Level::VN, set))
+        & say(line(vvn, ledger, Level::VVN, set))
+        & say(line(network, ledger, Level::Network, set))
+}
+
+fn say_figures(ledger: Ledger) -> bool {
     let sheet = ledger.sheet;
-    if sheet.there {
-        say_number(b"year ", sheet.year as u64);
-    } else {
-        say(b"year -");
+    if !sheet.there {
+        return true;
     }
-    say_number(b" events ", ledger.events as u64);
-    say_number(b" short ", ledger.short as u64);
-    say_number(b" refused ", refused);
-    say(b"\n");
+    say_set(
+        ledger,
+        Set::All,
+        b"NN all",
+        b"VN all",
+        b"VVN all",
+        b"SYS all",
+    )
+        & say_set(
+            ledger,
+            Set::Std,
+            b"NN std",
+            b"VN std",
+            b"VVN std",
+            b"SYS std",
+        )
+}
+
+fn complain(why: &[u8]) {
+    io::write_all(STDERR_FILENO, b"exact_report: ");
+    io::write_all(STDERR_FILENO, why);
 }
 
 fn main() {
@@ -145,16 +173,11 @@ fn main() {
     let input = read_book(&mut map, &mut buffer);
     let read = feed::finish(input.feed);
     if input.failed | (read.answer != 0) {
-        io::write_all(
-            STDERR_FILENO,
-            b"exact_report: standard input cannot be read\n",
-        );
+        complain(b"standard input cannot be read\n");
         return;
     }
     let ledger = read.ledger;
-    let sheet = ledger.sheet;
-    say_head(ledger, read.refused);
-    if sheet.there {
-        say_lines(ledger);
+    if !(say(head(ledger, read.refused)) & say_figures(ledger)) {
+        complain(b"the figures cannot be written\n");
     }
 }

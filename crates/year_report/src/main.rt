@@ -92,5 +92,10 @@ fn main() {
     let report = report::report_of(read.ledger, read.refused);
     let text = report.text;
     let bytes = text.bytes;
-    io::write_all(STDOUT_FILENO, wire::part(&bytes, 0, text.len));
+    if !io::write_all(STDOUT_FILENO, wire::part(&bytes, 0, text.len)) {
+        io::write_all(
+            STDERR_FILENO,
+            b"year_report: the report cannot be written\n",
+        );
+    }
 }
