@@ -40,9 +40,6 @@ extern "C" {
 /* The most digits of a decimal. */
 #define TEMELYAK_DIGITS 6u
 
-/* What every call is told first: version and sizes of the header that the caller was built with. A library of another header refuses it (254). */
-#define TEMELYAK_HEADER (((uint64_t)TEMELYAK_VERSION << 32) + ((uint64_t)TEMELYAK_LEDGER_WORDS << 16) + (uint64_t)TEMELYAK_SLOT_BYTES)
-
 /* ---- what is lent */
 
 /* The customers and the half customer-minutes (twice the minutes) of one event type on one level. */
@@ -91,6 +88,71 @@ typedef struct temelyak_read {
     uint64_t refused;
     uint64_t broken;
 } temelyak_read;
+
+/* ---- the layout: a caller for whom a struct lies otherwise, as under #pragma pack, does not compile */
+
+/* A struct behind a byte lies at its alignment. */
+struct temelyak_byte_cell { char byte; temelyak_cell after; };
+struct temelyak_byte_ledger { char byte; temelyak_ledger after; };
+struct temelyak_byte_slot { char byte; temelyak_slot after; };
+struct temelyak_byte_fraction { char byte; temelyak_fraction after; };
+struct temelyak_byte_decimal { char byte; temelyak_decimal_parts after; };
+struct temelyak_byte_read { char byte; temelyak_read after; };
+
+/* C99 has no assert for the compiler: where a fact does not hold, an array of -1 bytes is declared by its name. */
+#if defined(__cplusplus) && __cplusplus >= 201103L
+#define TEMELYAK_ASSERT(name, fact) static_assert(fact, "temelyak_assert_" #name)
+#else
+#define TEMELYAK_ASSERT(name, fact) typedef char temelyak_assert_##name[(fact) ? 1 : -1]
+#endif
+
+TEMELYAK_ASSERT(cell_size, sizeof(temelyak_cell) == 16);
+TEMELYAK_ASSERT(cell_aligned, offsetof(struct temelyak_byte_cell, after) == 8);
+TEMELYAK_ASSERT(cell_customers, offsetof(temelyak_cell, customers) == 0);
+TEMELYAK_ASSERT(cell_half_minutes, offsetof(temelyak_cell, half_minutes) == 8);
+
+TEMELYAK_ASSERT(ledger_size, sizeof(temelyak_ledger) == 8 * TEMELYAK_LEDGER_WORDS);
+TEMELYAK_ASSERT(ledger_aligned, offsetof(struct temelyak_byte_ledger, after) == 8);
+TEMELYAK_ASSERT(ledger_has_sheet, offsetof(temelyak_ledger, has_sheet) == 0);
+TEMELYAK_ASSERT(ledger_year, offsetof(temelyak_ledger, year) == 8);
+TEMELYAK_ASSERT(ledger_totals, offsetof(temelyak_ledger, totals) == 16);
+TEMELYAK_ASSERT(ledger_events, offsetof(temelyak_ledger, events) == 40);
+TEMELYAK_ASSERT(ledger_short_events, offsetof(temelyak_ledger, short_events) == 48);
+TEMELYAK_ASSERT(ledger_cells, offsetof(temelyak_ledger, cells) == 56);
+
+TEMELYAK_ASSERT(slot_size, sizeof(temelyak_slot) == TEMELYAK_SLOT_BYTES);
+TEMELYAK_ASSERT(slot_aligned, offsetof(struct temelyak_byte_slot, after) == 8);
+TEMELYAK_ASSERT(slot_number, offsetof(temelyak_slot, number) == 0);
+TEMELYAK_ASSERT(slot_type, offsetof(temelyak_slot, type) == 2);
+TEMELYAK_ASSERT(slot_voltage, offsetof(temelyak_slot, voltage) == 3);
+TEMELYAK_ASSERT(slot_cause, offsetof(temelyak_slot, cause) == 4);
+TEMELYAK_ASSERT(slot_t0, offsetof(temelyak_slot, t0) == 8);
+TEMELYAK_ASSERT(slot_last, offsetof(temelyak_slot, last) == 12);
+TEMELYAK_ASSERT(slot_steps, offsetof(temelyak_slot, steps) == 16);
+TEMELYAK_ASSERT(slot_customers, offsetof(temelyak_slot, customers) == 24);
+TEMELYAK_ASSERT(slot_half_minutes, offsetof(temelyak_slot, half_minutes) == 48);
+
+TEMELYAK_ASSERT(fraction_size, sizeof(temelyak_fraction) == 16);
+TEMELYAK_ASSERT(fraction_aligned, offsetof(struct temelyak_byte_fraction, after) == 8);
+TEMELYAK_ASSERT(fraction_top, offsetof(temelyak_fraction, top) == 0);
+TEMELYAK_ASSERT(fraction_bottom, offsetof(temelyak_fraction, bottom) == 8);
+
+TEMELYAK_ASSERT(decimal_size, sizeof(temelyak_decimal_parts) == 16);
+TEMELYAK_ASSERT(decimal_aligned, offsetof(struct temelyak_byte_decimal, after) == 8);
+TEMELYAK_ASSERT(decimal_whole, offsetof(temelyak_decimal_parts, whole) == 0);
+TEMELYAK_ASSERT(decimal_digits, offsetof(temelyak_decimal_parts, digits) == 8);
+
+TEMELYAK_ASSERT(read_size, sizeof(temelyak_read) == 16);
+TEMELYAK_ASSERT(read_aligned, offsetof(struct temelyak_byte_read, after) == 8);
+TEMELYAK_ASSERT(read_refused, offsetof(temelyak_read, refused) == 0);
+TEMELYAK_ASSERT(read_broken, offsetof(temelyak_read, broken) == 8);
+
+#undef TEMELYAK_ASSERT
+
+/* What every call is told first: the version of the header that the caller was built with, and the sizes that ledger and slot have there. A library of
+ * another header or another layout refuses it (254). */
+#define TEMELYAK_HEADER \
+    (((uint64_t)TEMELYAK_VERSION << 32) + ((uint64_t)(sizeof(temelyak_ledger) / sizeof(uint64_t)) << 16) + (uint64_t)sizeof(temelyak_slot))
 
 /* ---- codes */
 

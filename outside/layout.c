@@ -1,11 +1,18 @@
 /* Sizes, offsets and constants of temelyak.h against the library's own: what it says it was built with, a slot and a ledger that it wrote, read
-   field by field, and figures asked for by code. Compiled as C and as C++. */
+   field by field, and figures asked for by code. Compiled as C and as C++. With PACKED it is a caller for whom structs lie otherwise, under #pragma pack(1):
+   temelyak.h does not compile there, and without its asserts (outside/run takes them out) every call answers 254 and leaves what was lent. */
 #include <inttypes.h>
 #include <stdio.h>
 #include <stdlib.h>
 #include <string.h>
 
+#ifdef PACKED
+#pragma pack(1)
+#endif
 #include "temelyak.h"
+#ifdef PACKED
+#pragma pack()
+#endif
 
 static unsigned facts;
 
@@ -15,6 +22,47 @@ static void same(const char *name, uint64_t is, uint64_t must) {
     printf("layout: %s is %" PRIu64 ", and must be %" PRIu64 "\n", name, is, must);
     exit(1);
 }
+
+#ifdef PACKED
+
+/* What is lent to a call, with room behind the desk for slots of the library's size. */
+static struct lent {
+    temelyak_ledger ledger;
+    uint64_t out[2];
+    uint8_t map[TEMELYAK_MAP_BYTES];
+    temelyak_slot desk[TEMELYAK_SLOTS];
+    uint8_t behind[TEMELYAK_SLOTS * TEMELYAK_SLOT_BYTES];
+} lent, before;
+
+static void refused(const char *name, uint32_t answer) {
+    same(name, answer, TEMELYAK_REFUSED_HEADER);
+    same("what was lent is changed", memcmp(&lent, &before, sizeof lent) != 0, 0);
+}
+
+/* A sheet, and the opening of an outage, both of which a library would take that did not look at sizes. */
+static const uint8_t sheet_record[18] = {18, 0, 1, 0, 0xd9, 7, 100, 0, 0, 0, 10, 0, 0, 0, 1, 0, 0, 0};
+static const uint8_t open_message[13] = {13, 0, 16, 0, 1, 0, 11, 7, 0, 0, 0, 0, 0};
+
+int main(void) {
+    uint64_t *words = temelyak_words(&lent.ledger);
+    uint64_t *out = temelyak_words(&lent.out);
+    same("bytes of a slot under #pragma pack(1)", sizeof(temelyak_slot), 62);
+    refused("empty", temelyak_empty(TEMELYAK_HEADER, words, TEMELYAK_LEDGER_WORDS));
+    refused("take", temelyak_take(TEMELYAK_HEADER, words, TEMELYAK_LEDGER_WORDS, lent.map, sizeof lent.map, sheet_record, sizeof sheet_record));
+    refused("take_book", temelyak_take_book(TEMELYAK_HEADER, words, TEMELYAK_LEDGER_WORDS, lent.map, sizeof lent.map, sheet_record, sizeof sheet_record, out, 2));
+    lent.ledger.has_sheet = 1;
+    lent.ledger.year = 2009;
+    for (unsigned level = 0; level < TEMELYAK_LEVELS; level++) lent.ledger.totals[level] = 100;
+    before = lent;
+    refused("serve", temelyak_serve(TEMELYAK_HEADER, words, TEMELYAK_LEDGER_WORDS, lent.map, sizeof lent.map, lent.desk, TEMELYAK_SLOTS, open_message,
+                                    sizeof open_message));
+    refused("index", temelyak_index(TEMELYAK_HEADER, words, TEMELYAK_LEDGER_WORDS, TEMELYAK_SAIFI, TEMELYAK_NN, TEMELYAK_SET_ALL, out, 2));
+    refused("decimal", temelyak_decimal(TEMELYAK_HEADER, words, TEMELYAK_LEDGER_WORDS, TEMELYAK_SAIFI, TEMELYAK_NN, TEMELYAK_SET_ALL, 2, out, 2));
+    printf("layout under #pragma pack(1): %u facts the same\n", facts);
+    return 0;
+}
+
+#else
 
 #define FIELD(type, field, at, size)                                         \
     same("offset of " #type "." #field, offsetof(type, field), at);          \
@@ -265,3 +313,5 @@ int main(void) {
 #endif
     return 0;
 }
+
+#endif
