@@ -225,7 +225,7 @@ static int read_book(void) {
 
 /* ---- the book of a text */
 
-static const char *wrong;                             /* what is expected, and where */
+static const char *wrong;                             /* what is expected or stands there, and where */
 static const uint8_t *wrong_at;
 static unsigned last_kind;                            /* of the line last taken */
 
@@ -235,8 +235,9 @@ static int expect(const uint8_t *at, const char *what) {
   return 0;
 }
 
-/* 1 for gaps, 2 for digits, 4 for what ends a line. A line lies before its newline, so that no place needs to be held against the line's end. */
-static const uint8_t sorts[256] = {[' '] = 1, ['\t'] = 1, [','] = 1, [';'] = 1, ['|'] = 1, ['\r'] = 1, ['0'] = 2, ['1'] = 2, ['2'] = 2,
+/* 1 for gaps, 2 for digits, 4 for what ends a line, 8 for what makes it one of cells. A line lies before its newline, so that no place needs to be held
+   against the line's end. */
+static const uint8_t sorts[256] = {[' '] = 1, ['\t'] = 9, [','] = 9, [';'] = 9, ['|'] = 1, ['\r'] = 1, ['0'] = 2, ['1'] = 2, ['2'] = 2,
                                    ['3'] = 2, ['4'] = 2,  ['5'] = 2, ['6'] = 2, ['7'] = 2, ['8'] = 2,  ['9'] = 2, ['#'] = 4, ['\n'] = 4};
 
 static const uint8_t *number(const uint8_t *p, uint32_t most, const char *no, uint32_t *value) {
@@ -245,7 +246,7 @@ static const uint8_t *number(const uint8_t *p, uint32_t most, const char *no, ui
   if (sorts[*p] != 2) return expect(p, no), NULL;
   for (; sorts[*p] == 2; p++)
     if (n <= most) n = 10 * n + (*p - '0');
-  if (n > most) return expect(first, most == 255 ? "a number of at most 255" : most == 65535 ? "a number of at most 65535" : "a number of at most 4294967295"), NULL;
+  if (n > most) return expect(first, most == 255 ? "expected a number of at most 255" : most == 65535 ? "expected a number of at most 65535" : "expected a number of at most 4294967295"), NULL;
   *value = (uint32_t)n;
   return p;
 }
@@ -253,16 +254,16 @@ static const uint8_t *number(const uint8_t *p, uint32_t most, const char *no, ui
 static unsigned two(const uint8_t *p) { return 10u * (p[0] - '0') + (p[1] - '0'); }
 
 static const uint8_t *time_at(const uint8_t *p, unsigned year, uint32_t *value) {
-  static const char no[] = "a time: minutes from 1 January 00:00, or MM-DD hh:mm", form[] = "dd-dd dd:dd";
+  static const char no[] = "expected a time: minutes from 1 January 00:00, or MM-DD hh:mm", form[] = "dd-dd dd:dd";
   if (p[0] == '\n' || p[1] == '\n' || p[2] != '-') return number(p, UINT32_MAX, no, value);
   for (int k = 0; k < 11; k++)
     if (form[k] == 'd' ? sorts[p[k]] != 2 : p[k] != form[k]) return expect(p, no), NULL;
   unsigned month = two(p), day = two(p + 3), hour = two(p + 6), minute = two(p + 9);
   if (!year)
-    return expect(p, "a sheet that is in range on a line before a time as MM-DD hh:mm; minutes can be written without one"), NULL;
+    return expect(p, "expected a sheet that is in range on a line before a time as MM-DD hh:mm; minutes can be written without one"), NULL;
   const uint16_t *days = before[is_leap(year)];
   if (month < 1 || month > 12 || day < 1 || day > (unsigned)(days[month] - days[month - 1]) || hour > 23 || minute > 59)
-    return expect(p, "a day of the sheet's year, and a time from 00:00 to 23:59"), NULL;
+    return expect(p, "expected a day of the sheet's year, and a time from 00:00 to 23:59"), NULL;
   *value = 1440 * (days[month - 1] + day - 1) + 60 * hour + minute;
   return p + 11;
 }
@@ -275,7 +276,7 @@ static int hex_digit(unsigned b) {
 
 static const uint8_t *hex(const uint8_t *p, uint32_t *value) {
   int high = hex_digit(p[0]), low = high < 0 ? -1 : hex_digit(p[1]);
-  if (low < 0) return expect(p, "two hexadecimal digits"), NULL;
+  if (low < 0) return expect(p, "expected two hexadecimal digits"), NULL;
   *value = (uint32_t)(16 * high + low);
   return p + 2;
 }
@@ -296,34 +297,57 @@ static const struct sort lines[] = {
 
 static int is_end(unsigned b) { return sorts[b] & 5; }
 
+static unsigned separator_of(const uint8_t *p) {
+  while (!(sorts[*p] & 12)) p++;
+  return sorts[*p] & 8 ? *p : 0;
+}
+
+/* Past a gap: in a line of cells it has no other separator, and before an item exactly one. */
+static const uint8_t *past_gap(const uint8_t *p, unsigned separator, int before_item) {
+  const uint8_t *second = NULL;
+  unsigned count = 0;
+  for (; sorts[*p] & 1; p++) {
+    if (!(sorts[*p] & 8)) continue;
+    if (*p != separator) return expect(p, "expected the line's separator: one of comma, semicolon and tab parts all its cells"), NULL;
+    if (++count == 2) second = p;
+  }
+  if (!separator || !before_item || count == 1 || sorts[*p] == 4) return p;
+  if (count) return expect(second, "an empty cell; write 0"), NULL;
+  return expect(p, "expected the line's separator: in a line of cells a space or a bar alone parts nothing; write 1000, not 1 000"), NULL;
+}
+
 /* A line before its newline: how many bytes its record has, 0 for none, -1 where it is wrong. */
 static int take_line(const uint8_t *p, unsigned year, uint8_t *record) {
   const struct sort *s = lines;
-  unsigned items = 0, round = 0;
-  while (sorts[*p] == 1) p++;
-  if (sorts[*p] == 4) return 0;
+  unsigned items = 0, round = 0, separator = 0;
+  const uint8_t *word = p;
+  while (sorts[*word] & 1) word++;
+  if (sorts[*word] == 4) return 0;
+  separator = separator_of(p);
+  if (!(p = past_gap(p, separator, 0))) return -1;
   while (s < lines + 4 && (strncmp((const char *)p, s->word, s->size) || !is_end(p[s->size]))) s++;
-  if (s == lines + 4) return expect(p, "sheet, simple, stepped or hex at the line's beginning"), -1;
+  if (s == lines + 4) return expect(p, "expected sheet, simple, stepped or hex at the line's beginning"), -1;
   p += s->size;
   uint8_t *to = record + s->head;
   for (;; items++) {
     uint32_t value = 0;
-    while (sorts[*p] == 1) p++;
+    int full = items >= s->onces + s->agains * s->most;
+    if (!(p = past_gap(p, separator, !full))) return -1;
     if (sorts[*p] == 4) break;
-    if (items >= s->onces + s->agains * s->most)
-      return expect(p, "the line's end: a sheet has 4 numbers, a simple event 15, a stepped event at most 64 steps, hex at most 32 bytes"), -1;
+    if (full)
+      return expect(p, "expected the line's end: a sheet has 4 numbers, a simple event 15, a stepped event at most 64 steps, hex at most 32 bytes"), -1;
     char item = items < s->onces ? s->once[items] : s->again[round];
     if (items >= s->onces) round = round + 1 == s->agains ? 0 : round + 1;
     if (s->kind == 3 && items == 5) *to++ = 0;
     switch (item) {
     case 't': p = time_at(p, year, &value); break;
     case 'h': p = hex(p, &value); break;
-    case '1': p = number(p, 255, "a whole number in decimal digits", &value); break;
-    case '2': p = number(p, 65535, "a whole number in decimal digits", &value); break;
-    default: p = number(p, UINT32_MAX, "a whole number in decimal digits", &value);
+    case '1': p = number(p, 255, "expected a whole number in decimal digits", &value); break;
+    case '2': p = number(p, 65535, "expected a whole number in decimal digits", &value); break;
+    default: p = number(p, UINT32_MAX, "expected a whole number in decimal digits", &value);
     }
     if (!p) return -1;
-    if (!is_end(*p)) return expect(p, "a space, a tab, a comma, a semicolon or a bar"), -1;
+    if (!is_end(*p)) return expect(p, "expected a space, a tab, a comma, a semicolon or a bar"), -1;
     *to++ = (uint8_t)value;
     if (item == '1' || item == 'h') continue;
     *to++ = (uint8_t)(value >> 8);
@@ -332,7 +356,7 @@ static int take_line(const uint8_t *p, unsigned year, uint8_t *record) {
     *to++ = (uint8_t)(value >> 24);
   }
   if (items < s->onces + (s->most ? 1 : 0) || round)
-    return expect(p, "more numbers: a sheet has 4, a simple event 15, a stepped event 5 and then 4 for each step, hex at least one byte"), -1;
+    return expect(p, "expected more numbers: a sheet has 4, a simple event 15, a stepped event 5 and then 4 for each step, hex at least one byte"), -1;
   size_t n = (size_t)(to - record);
   last_kind = s->kind;
   if (s->kind) {
@@ -355,7 +379,7 @@ static long take_lines(const char *name, size_t size, unsigned *year, size_t *li
     int n = take_line(text + place, *year, out + filled);
     ++*line;
     if (n < 0) {
-      fprintf(stderr, "%s:%zu:%zu: expected %s\n", name, *line, (size_t)(wrong_at - text - place) + 1, wrong);
+      fprintf(stderr, "%s:%zu:%zu: %s\n", name, *line, (size_t)(wrong_at - text - place) + 1, wrong);
       return -1;
     }
     if (!*year && n && last_kind == 1) *year = year_of(out + filled);

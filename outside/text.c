@@ -68,7 +68,10 @@ static unsigned year_of(const uint8_t *fields) {
     return year;
 }
 
-int text_is_gap(unsigned byte) { return byte == ' ' || byte == '\t' || byte == ',' || byte == ';' || byte == '|' || byte == '\r'; }
+/* The three that make a line one of cells. */
+int text_is_separator(unsigned byte) { return byte == '\t' || byte == ',' || byte == ';'; }
+
+int text_is_gap(unsigned byte) { return byte == ' ' || byte == '|' || byte == '\r' || text_is_separator(byte); }
 
 /* ---- the text of a book */
 
@@ -94,16 +97,25 @@ static void put_answer(text_page *page, unsigned answer) {
     page->answers[answer]++;
 }
 
-static void put_some_gaps(text_page *page, unsigned least) {
-    unsigned gaps = (unsigned)one_of(least, least, least, least + 1, from_to(least, 5));
-    for (; gaps > 0; gaps--) text_add_byte(&page->text, (unsigned)one_of(' ', ' ', '\t', ',', ';', '|', '\r'));
+/* Some of these bytes, or none of them. */
+static void put_some(text_page *page, const char *bytes) {
+    for (unsigned left = (unsigned)one_of(0, 0, 0, 0, 1, below(6)); left > 0; left--) text_add_byte(&page->text, (uint8_t)bytes[below(strlen(bytes))]);
+}
+
+/* A gap of a free line that no item follows, or that stands before its word: in a line of cells it has as many of the separator as chance likes. */
+static void put_loose_gap(text_page *page) {
+    char bytes[] = {' ', '|', '\r', (char)page->separator, 0};
+    put_some(page, bytes);
 }
 
 static void put_gap(text_page *page, const char *printed) {
-    if (page->way == TEXT_FREE)
-        put_some_gaps(page, 1);
-    else
+    if (page->way != TEXT_FREE) {
         text_add_words(&page->text, printed);
+        return;
+    }
+    put_some(page, " |\r");
+    text_add_byte(&page->text, page->separator ? page->separator : (unsigned)one_of(' ', ' ', '|', '\r'));
+    put_some(page, " |\r");
 }
 
 static void put_some_comment(text_page *page) {
@@ -116,17 +128,27 @@ static void put_some_comment(text_page *page) {
 
 static void put_end(text_page *page) {
     if (page->way == TEXT_FREE) {
-        put_some_gaps(page, 0);
+        put_loose_gap(page);
         if (one_in(6)) put_some_comment(page);
         if (one_in(4)) text_add_byte(&page->text, '\r');
     }
     text_add_byte(&page->text, '\n');
 }
 
+/* A line that says nothing, with separators of any sort. */
+static void put_silence(text_page *page) {
+    put_some(page, " |\r\t,;");
+    page->separator = 0;
+    put_end(page);
+}
+
 /* The line's word; before it, where the text is free, lines that say nothing. */
 static void put_word(text_page *page, const char *word) {
-    while (page->way == TEXT_FREE && one_in(8)) put_end(page);
-    if (page->way == TEXT_FREE) put_some_gaps(page, 0);
+    if (page->way == TEXT_FREE) {
+        while (one_in(8)) put_silence(page);
+        page->separator = (unsigned)one_of(0, 0, 0, ',', ';', '\t');
+        put_loose_gap(page);
+    }
     text_add_words(&page->text, word);
 }
 
@@ -262,32 +284,36 @@ void text_put_book(text_page *page, int way, const text_bytes *book) {
                        "# stepped: number type voltage cause | T0 | for each step its time, and who was off until then on NN VN VVN\n");
     put_records(page, book);
     if (way != TEXT_FREE) return;
-    while (one_in(4)) put_end(page);
+    while (one_in(4)) put_silence(page);
     if (page->text.size && one_in(3)) page->text.size--;             /* the last line without its newline */
 }
 
 /* ---- the book of a text */
 
-const char *const text_expected[TEXT_EXPECTED] = {
-    [TEXT_WORD] = "sheet, simple, stepped or hex at the line's beginning",
-    [TEXT_WHOLE_NUMBER] = "a whole number in decimal digits",
-    [TEXT_MOST_255] = "a number of at most 255",
-    [TEXT_MOST_65535] = "a number of at most 65535",
-    [TEXT_MOST_4294967295] = "a number of at most 4294967295",
-    [TEXT_TIME] = "a time: minutes from 1 January 00:00, or MM-DD hh:mm",
-    [TEXT_SHEET] = "a sheet that is in range on a line before a time as MM-DD hh:mm; minutes can be written without one",
-    [TEXT_DAY] = "a day of the sheet's year, and a time from 00:00 to 23:59",
-    [TEXT_TWO_DIGITS] = "two hexadecimal digits",
-    [TEXT_GAP] = "a space, a tab, a comma, a semicolon or a bar",
-    [TEXT_LINE_END] = "the line's end: a sheet has 4 numbers, a simple event 15, a stepped event at most 64 steps, hex at most 32 bytes",
-    [TEXT_MORE] = "more numbers: a sheet has 4, a simple event 15, a stepped event 5 and then 4 for each step, hex at least one byte",
-    [TEXT_SHORTER_LINE] = "a line of at most 65535 bytes",
+const char *const text_messages[TEXT_MESSAGES] = {
+    [TEXT_WORD] = "expected sheet, simple, stepped or hex at the line's beginning",
+    [TEXT_WHOLE_NUMBER] = "expected a whole number in decimal digits",
+    [TEXT_MOST_255] = "expected a number of at most 255",
+    [TEXT_MOST_65535] = "expected a number of at most 65535",
+    [TEXT_MOST_4294967295] = "expected a number of at most 4294967295",
+    [TEXT_TIME] = "expected a time: minutes from 1 January 00:00, or MM-DD hh:mm",
+    [TEXT_SHEET] = "expected a sheet that is in range on a line before a time as MM-DD hh:mm; minutes can be written without one",
+    [TEXT_DAY] = "expected a day of the sheet's year, and a time from 00:00 to 23:59",
+    [TEXT_TWO_DIGITS] = "expected two hexadecimal digits",
+    [TEXT_GAP] = "expected a space, a tab, a comma, a semicolon or a bar",
+    [TEXT_LINE_END] = "expected the line's end: a sheet has 4 numbers, a simple event 15, a stepped event at most 64 steps, hex at most 32 bytes",
+    [TEXT_MORE] = "expected more numbers: a sheet has 4, a simple event 15, a stepped event 5 and then 4 for each step, hex at least one byte",
+    [TEXT_SHORTER_LINE] = "expected a line of at most 65535 bytes",
+    [TEXT_OTHER_SEPARATOR] = "expected the line's separator: one of comma, semicolon and tab parts all its cells",
+    [TEXT_SEPARATOR] = "expected the line's separator: in a line of cells a space or a bar alone parts nothing; write 1000, not 1 000",
+    [TEXT_EMPTY_CELL] = "an empty cell; write 0",
 };
 
 struct line {
     const uint8_t *at;
     size_t size, place;           /* the place is where the next item is looked for */
     unsigned year;                /* of the sheets on lines before it, or 0 */
+    unsigned separator;           /* of a line of cells, or 0 */
     int wrong;                    /* what is expected, and at which place */
     size_t wrong_place;
 };
@@ -323,6 +349,26 @@ static int is_digit(const struct line *line, size_t place) { return place < line
 static int find_item(struct line *line) {
     while (!is_line_end(line, line->place) && text_is_gap(line->at[line->place])) line->place++;
     return !is_line_end(line, line->place);
+}
+
+/* The first comma, semicolon or tab before the comment, or 0. */
+static unsigned separator_of(const struct line *line) {
+    for (size_t k = 0; !is_line_end(line, k); k++)
+        if (text_is_separator(line->at[k])) return line->at[k];
+    return 0;
+}
+
+/* The gap from a place to where the line stands: in a line of cells no other separator, and before an item exactly one. */
+static int read_gap(struct line *line, size_t from, int before_item) {
+    size_t count = 0, second = 0;
+    if (!line->separator) return 1;
+    for (size_t k = from; k < line->place; k++) {
+        if (!text_is_separator(line->at[k])) continue;
+        if (line->at[k] != line->separator) return expect(line, k, TEXT_OTHER_SEPARATOR);
+        if (++count == 2) second = k;
+    }
+    if (!before_item || count == 1) return 1;
+    return count ? expect(line, second, TEXT_EMPTY_CELL) : expect(line, line->place, TEXT_SEPARATOR);
 }
 
 static const struct sort *read_word(struct line *line) {
@@ -428,10 +474,16 @@ static int read_line(struct line *line, text_bytes *book) {
     fields.size = 0;
     if (line->size > TEXT_LONGEST) return expect(line, TEXT_LONGEST, TEXT_SHORTER_LINE);
     if (!find_item(line)) return 1;
+    line->separator = separator_of(line);
+    if (!read_gap(line, 0, 0)) return 0;
     const struct sort *sort = read_word(line);
     if (!sort) return 0;
-    for (; find_item(line); items++) {
+    for (;; items++) {
         char item = item_after(sort, items);
+        size_t from = line->place;
+        int goes_on = find_item(line);
+        if (!read_gap(line, from, goes_on && item)) return 0;
+        if (!goes_on) break;
         if (!item) return expect(line, line->place, TEXT_LINE_END);
         if (!read_item(line, item, &fields)) return 0;
     }
@@ -447,8 +499,8 @@ static void add_message(text_outcome *outcome, const char *name) {
     add_number(&outcome->message, outcome->line);
     text_add_byte(&outcome->message, ':');
     add_number(&outcome->message, outcome->column);
-    text_add_words(&outcome->message, ": expected ");
-    text_add_words(&outcome->message, text_expected[outcome->wrong]);
+    text_add_words(&outcome->message, ": ");
+    text_add_words(&outcome->message, text_messages[outcome->wrong]);
     text_add_byte(&outcome->message, '\n');
 }
 

@@ -36,6 +36,7 @@ typedef struct text_page {
     text_bytes text;
     int way;
     unsigned year;                                   /* of the first sheet line that is in range, or 0 */
+    unsigned separator;                              /* of the line that is being put, where it is one of cells, or 0 */
     unsigned answers[TEXT_ANSWERS];                  /* how often each came, in all books */
 } text_page;
 
@@ -45,7 +46,7 @@ size_t text_length_at(const text_bytes *book, size_t place);
 
 /* ---- the book of a text */
 
-/* What may be expected where a text is wrong. */
+/* What may be wrong with a text: what is expected there, or what stands there. */
 enum {
     TEXT_RIGHT,
     TEXT_WORD,
@@ -61,11 +62,14 @@ enum {
     TEXT_LINE_END,
     TEXT_MORE,
     TEXT_SHORTER_LINE,
-    TEXT_EXPECTED
+    TEXT_OTHER_SEPARATOR,
+    TEXT_SEPARATOR,
+    TEXT_EMPTY_CELL,
+    TEXT_MESSAGES
 };
-extern const char *const text_expected[TEXT_EXPECTED];
+extern const char *const text_messages[TEXT_MESSAGES];
 
-/* The book, or the message; and what was expected at which line and column. */
+/* The book, or the message; and what is wrong at which line and column. */
 typedef struct text_outcome {
     text_bytes book, message;
     int wrong;
@@ -74,5 +78,6 @@ typedef struct text_outcome {
 
 void text_read(text_outcome *outcome, const char *name, const text_bytes *text);
 int text_is_gap(unsigned byte);
+int text_is_separator(unsigned byte);
 
 #endif

@@ -34,9 +34,9 @@ enum {
 uint64_t chance_seed;
 static uint64_t first_seed;
 
-/* What a hand has compared, how often each answer was in a book, and how often each thing was expected in a text. */
+/* What a hand has compared, how often each answer was in a book, and how often each message was told of a text. */
 static struct tally {
-    unsigned books, texts, answers[TEXT_ANSWERS], expected[TEXT_EXPECTED];
+    unsigned books, texts, answers[TEXT_ANSWERS], messages[TEXT_MESSAGES];
 } *tally;
 
 static void give_up(const char *what) {
@@ -248,7 +248,7 @@ static void compare_book(const char *name, const text_bytes *book) {
 static void compare_text(const char *name, const text_bytes *text) {
     tally->texts++;
     if (!text_is_right(text)) fail(name, text, text_is_right, &text_file, "target/bin/book_write ");
-    tally->expected[outcome_of_text.wrong]++;
+    tally->messages[outcome_of_text.wrong]++;
 }
 
 /* ---- books by name */
@@ -551,7 +551,13 @@ static void right_texts(void) {
         {"bytes", "hex 0a FF fF A0#c", 4, "\x0a\xff\xff\xa0"},
         {"a sheet in hex", "hex 12 00 01 00 d9 07 00 00 00 00 00 00 00 00 00 00 00 00", 18, "\x12\0\1\0\xd9\7\0\0\0\0\0\0\0\0\0\0\0\0"},
         {"a sheet without a newline", "sheet 65535 4294967295 0 1", 18, "\x12\0\1\0\xff\xff\xff\xff\xff\xff\0\0\0\0\1\0\0\0"},
-        {"a sheet behind gaps", "\r| sheet\t2009 ,; 0000000000000000000000000000001|2 3\r\n", 18, "\x12\0\1\0\xd9\7\1\0\0\0\2\0\0\0\3\0\0\0"},
+        {"a sheet behind gaps", "\r| sheet |2009\r 0000000000000000000000000000001|2 3\r\n", 18, "\x12\0\1\0\xd9\7\1\0\0\0\2\0\0\0\3\0\0\0"},
+        {"cells parted by semicolons", "sheet;2009;1;2;3", 18, "\x12\0\1\0\xd9\7\1\0\0\0\2\0\0\0\3\0\0\0"},
+        {"cells parted by commas, with spaces, bars and returns beside them", "sheet ,\r2009| , |1 ,2, 3\r\n", 18, "\x12\0\1\0\xd9\7\1\0\0\0\2\0\0\0\3\0\0\0"},
+        {"cells parted by tabs, with tabs before and after", "\t\t sheet\t2009\t1\t2\t3\t\t \t", 18, "\x12\0\1\0\xd9\7\1\0\0\0\2\0\0\0\3\0\0\0"},
+        {"separators alone, and in comments", ";;,;\n,\t# ;,\nsheet 2009 1 2 3#,;\t;", 18, "\x12\0\1\0\xd9\7\1\0\0\0\2\0\0\0\3\0\0\0"},
+        {"a day in a cell", "sheet;2000;0;0;0\nstepped;1;2;3;4;02-29 23:59;12-31 00:00;5;6;7;;;", 48,
+         "\x12\0\1\0\xd0\7\0\0\0\0\0\0\0\0\0\0\0\0\x1e\0\3\0\1\0\2\3\4\x7f\x51\1\0\1\x20\5\x08\0\5\0\0\0\6\0\0\0\7\0\0\0"},
         {"the largest of each", "stepped 65535 255 255 255 4294967295 0 4294967295 0 1", 30,
          "\x1e\0\3\0\xff\xff\xff\xff\xff\xff\xff\xff\xff\1\0\0\0\0\xff\xff\xff\xff\0\0\0\0\1\0\0\0"},
         {"the day that a leap year has more", "sheet 2000 0 0 0\nstepped 1 2 3 4 02-29 23:59 12-31 00:00 5 6 7", 48,
@@ -581,7 +587,8 @@ static void wrong_texts(void) {
         {"a word alone", "sheet", 1, 6, TEXT_MORE},
         {"a word and a comment", "hex#00\n", 1, 4, TEXT_MORE},
         {"the last number in a comment", "sheet 2009 1 1 # 1\n", 1, 16, TEXT_MORE},
-        {"a number too few", "simple 1 2 3 4 5 6 7 8 9 10 11 12 13 14 ;\n", 1, 42, TEXT_MORE},
+        {"a number too few", "simple 1 2 3 4 5 6 7 8 9 10 11 12 13 14 |\n", 1, 42, TEXT_MORE},
+        {"a cell too few", "simple;1;2;3;4;5;6;7;8;9;10;11;12;13;14;;;\n", 1, 43, TEXT_MORE},
         {"no step", "stepped 1 2 3 4 5\n", 1, 18, TEXT_MORE},
         {"a part of a step", "stepped 1 2 3 4 5 6 7 8 9 10 11 12", 1, 35, TEXT_MORE},
         {"no byte", "hex \n", 1, 5, TEXT_MORE},
@@ -602,7 +609,7 @@ static void wrong_texts(void) {
         {"minutes too many", "stepped 1 1 1 1 4294967296\n", 1, 17, TEXT_MOST_4294967295},
         {"a letter for a time", "stepped 1 1 1 1 a\n", 1, 17, TEXT_TIME},
         {"a day alone", "sheet 2009 1 1 1\nstepped 1 1 1 1 01-01\n", 2, 17, TEXT_TIME},
-        {"a tab after a day", "sheet 2009 1 1 1\nstepped 1 1 1 1 01-01\t00:00 1 1 1 1\n", 2, 17, TEXT_TIME},
+        {"a tab after a day", "sheet 2009 1 1 1\nstepped\t1\t1\t1\t1\t01-01\t00:00\t1\t1\t1\t1\n", 2, 17, TEXT_TIME},
         {"two spaces after a day", "sheet 2009 1 1 1\nstepped 1 1 1 1 01-01  00:00 1 1 1 1\n", 2, 17, TEXT_TIME},
         {"an hour of one digit", "sheet 2009 1 1 1\nstepped 1 1 1 1 01-01 0:00 1 1 1 1\n", 2, 17, TEXT_TIME},
         {"a minute of one digit", "sheet 2009 1 1 1\nstepped 1 1 1 1 01-01 00:0", 2, 17, TEXT_TIME},
@@ -627,6 +634,22 @@ static void wrong_texts(void) {
         {"one hexadecimal digit", "hex 0", 1, 5, TEXT_TWO_DIGITS},
         {"a hexadecimal digit and a gap", "hex 00 1 2\n", 1, 8, TEXT_TWO_DIGITS},
         {"three hexadecimal digits", "hex 00 123\n", 1, 10, TEXT_GAP},
+        {"a space in a cell", "simple;1;11;5;0;100;100;150;150;150;1 000;;0;1 000;;0\n", 1, 39, TEXT_SEPARATOR},
+        {"an empty cell", "stepped;2;11;5;0;100;184;62;;;187;60;;\n", 1, 29, TEXT_EMPTY_CELL},
+        {"a comma between semicolons", "stepped;2;11;7;0;0;1,084;2,062;1,000;1,000\n", 1, 21, TEXT_OTHER_SEPARATOR},
+        {"an empty cell before the word's first item", "sheet,,2009,1,1,1", 1, 7, TEXT_EMPTY_CELL},
+        {"an empty cell of spaces and bars", "sheet; | ;2009;1;1;1", 1, 10, TEXT_EMPTY_CELL},
+        {"a space for the separator", "sheet 2009,1,1,1", 1, 7, TEXT_SEPARATOR},
+        {"a bar for the separator", "sheet,2009|1,1,1", 1, 12, TEXT_SEPARATOR},
+        {"a tab before spaces", "\tsheet 2009 1 1 1", 1, 8, TEXT_SEPARATOR},
+        {"a semicolon behind spaces", "sheet 2009 1 1 1 ; # end", 1, 7, TEXT_SEPARATOR},
+        {"another separator before the word", " ; ,sheet;2009;1;1;1", 1, 4, TEXT_OTHER_SEPARATOR},
+        {"another separator before a wrong word", ";,Sheet", 1, 2, TEXT_OTHER_SEPARATOR},
+        {"another separator behind the last cell", "sheet;2009;1;1;1;;\t;", 1, 19, TEXT_OTHER_SEPARATOR},
+        {"another separator and an empty cell", "sheet;2009;;,1;1", 1, 13, TEXT_OTHER_SEPARATOR},
+        {"another separator in a cell too many", "sheet;2009;1;1;1,1", 1, 17, TEXT_OTHER_SEPARATOR},
+        {"an empty cell before a cell too many", "sheet;2009;1;1;1;;;1", 1, 20, TEXT_LINE_END},
+        {"a space before a cell too many", "sheet;2009;1;1;1 1", 1, 18, TEXT_LINE_END},
         {"a letter behind f", "hex 0G\n", 1, 5, TEXT_TWO_DIGITS},
     };
     for (size_t k = 0; k < sizeof wrong / sizeof *wrong; k++) {
@@ -810,6 +833,17 @@ static void another_day(void) {
     text_replace(text, place, size, day, strlen(day));
 }
 
+/* A gap of another form: in a line of cells it has too few separators or too many, or another one. */
+static void another_gap(void) {
+    static const char *const gaps[] = {",", ";", "\t", " ", "|", ";;", ",,", "\t\t", "; ;", " ;", ", ", ",;", ";\t", "\t,", ";|;", ";;;", " | "};
+    const char *gap = gaps[below(sizeof gaps / sizeof *gaps)];
+    size_t first, place = some_item(&first), end;
+    place += first;
+    for (end = place; end < text->size && text_is_gap(text->at[end]); end++) {}
+    if (one_in(2)) end = place;                      /* beside what stands there */
+    text_replace(text, place, end - place, gap, strlen(gap));
+}
+
 /* An item or a line less, or once more. */
 static void more_or_less(void) {
     static text_bytes copy;
@@ -841,7 +875,7 @@ static void first_line_last(void) {
 }
 
 static void change_text(void) {
-    switch (below(16)) {
+    switch (below(19)) {
     case 0: case 1: case 2: case 3: another_byte(); break;
     case 4: case 5: case 6: another_item(); break;
     case 7: case 8: a_larger_number(); break;
@@ -849,6 +883,7 @@ static void change_text(void) {
     case 12: case 13: more_or_less(); break;
     case 14: text->size = below(text->size + 1); break;
     case 15: first_line_last(); break;
+    case 16: case 17: case 18: another_gap(); break;
     }
 }
 
@@ -941,15 +976,15 @@ static void add_tally(struct tally *sum, const struct tally *more) {
     sum->books += more->books;
     sum->texts += more->texts;
     for (unsigned k = 0; k < TEXT_ANSWERS; k++) sum->answers[k] += more->answers[k];
-    for (unsigned k = 0; k < TEXT_EXPECTED; k++) sum->expected[k] += more->expected[k];
+    for (unsigned k = 0; k < TEXT_MESSAGES; k++) sum->messages[k] += more->messages[k];
 }
 
 static int missing(const struct tally *sum) {
     int count = 0;
     for (unsigned k = 0; k < TEXT_ANSWERS; k++)
         if (text_answers[k] && !sum->answers[k]) count++, printf("texts: FAILED: no book has %s", text_answers[k]);
-    for (unsigned k = 0; k < TEXT_EXPECTED; k++)
-        if (!sum->expected[k]) count++, printf("texts: FAILED: no text is %s%s\n", k ? "one where this is expected: " : "right", k ? text_expected[k] : "");
+    for (unsigned k = 0; k < TEXT_MESSAGES; k++)
+        if (!sum->messages[k]) count++, printf("texts: FAILED: no text is %s%s\n", k ? "one of which this is told: " : "right", k ? text_messages[k] : "");
     return count;
 }
 

@@ -68,6 +68,21 @@ fn tell_place(answer: u8) {
     }
 }
 
+// What was expected between the cells of a line, or stands there.
+fn tell_cell(answer: u8) {
+    if answer == scan::OTHER_SEPARATOR {
+        tell(b"expected the line's separator: one of comma, semicolon and tab parts all its cells");
+    }
+    if answer == scan::SEPARATOR {
+        tell(
+            b"expected the line's separator: in a line of cells a space or a bar alone parts nothing; write 1000, not 1 000",
+        );
+    }
+    if answer == scan::EMPTY_CELL {
+        tell(b"an empty cell; write 0");
+    }
+}
+
 // The place in the text: its name, the line and the column, each from 1.
 fn tell_where(name: &[u8], line: u64, column: u64) {
     tell(name);
@@ -156,6 +171,7 @@ fn take_line(
         tell_where(name, line, next(parsed.at as u64));
         tell_number(parsed.answer);
         tell_place(parsed.answer);
+        tell_cell(parsed.answer);
         tell(b"\n");
         return Told {
             year: told.year,

@@ -3,25 +3,20 @@ use Prim.Native.Nat.{ℕ, zero, suc, _+_, _-_, _<_, _≤_}
 use mathlib.Core.Path.{_≡_, refl, sym, ap, _∙_, subst⁻¹}
 use mathlib.Core.Bool.{Bool, true, false, _&&_, not, cond}
 use mathlib.Core.List.{List, [], _∷_, _++_}
-use lib.Dec.{eqb, leb}
-use lib.ListN.{length, drop, getD, set, replicate, length-drop, length-replicate, drop-of-length-le}
-use lib.Seq.{take-all, drop-cons, drop-drop, sets, sets-eq}
+use lib.Dec.{eqb, ltb, leb}
+use lib.ListN.{length, take, drop, getD, set, replicate, length-take, length-drop, length-replicate, drop-of-length-le}
+use lib.Seq.{drop-cons, drop-drop, sets, sets-eq}
 use native.Mathlib.Omega.{arith}
 use native.Mathlib.Numerals.{add-one}
 use borrow.Author.Tests.{ne-eqb, eq-eqb}
 use Rattle.base.proofs.TestLaws.{Tested, holds, fails, test}
-use Rattle.wire.specs.Book.{partOf}
 use Rattle.shape.specs.Shape.{itemOf, mostOf, wholeOf, noEntry}
 use Rattle.scan.specs.declared.Found.{Found}
-use Rattle.scan.specs.Scan.{read, gapsIn, endsHere, partedHere, itemFound}
-use Rattle.scan.proofs.ScanLaws.{gaps-short, item-short}
+use Rattle.scan.specs.Scan.{read, saidAt, gapsIn, endsHere, partedHere, separatorOf, otherAt, gapSaid, itemFound}
+use Rattle.scan.proofs.ScanLaws.{gaps-short, item-short, said-short}
 use Rattle.entry.specs.declared.Word.{Word}
 use Rattle.entry.specs.declared.Parsed.{Parsed}
-use Rattle.entry.specs.Entry.{beginsWith, isWord, wordText, wordAs, wordOf, saidAt, partedItem, nextField, valuesFrom, endFrom, refusedAt, endedBy, gathered, parsedOf}
-
--- the part from an offset to the end is what is left there
-pub part-is-rest : (s : List ℕ) (a : ℕ) → partOf s a (length s) ≡ drop a s
-part-is-rest s a = take-all (length s - a) (drop a s) (omega (arith, length-drop a s))
+use Rattle.entry.specs.Entry.{beginsWith, isWord, wordText, wordAs, wordOf, partedItem, nextField, itemDue, gapBefore, nextCell, valuesFrom, endFrom, refusedAt, endedBy, gathered, parsedOf}
 
 -- a choice whose test is known
 module _ {X : Type 0} (x y : X) where
@@ -165,35 +160,61 @@ module _ (s : List ℕ) (kind k year : ℕ) where
       go (fails e) (holds m) = subst⁻¹ (λ (r : Found). r .used ≤ length s) (next-over e m) (gaps-short s)
       go (fails e) (fails m) = subst⁻¹ (λ (r : Found). r .used ≤ length s) (next-item e m) (item-within s (gapsIn s) itemHere (length s) (gaps-short s) item-fits)
 
+-- the next item of a line with a separator, by its tests
+module _ (s : List ℕ) (kind k year sep : ℕ) where
+  pub cell-plain : eqb sep 0 ≡ true → nextCell s kind k year sep ≡ nextField s kind k year
+  unfolding nextCell
+  cell-plain e = chosen _ _ (eqb sep 0) e
+
+  module _ (cells : eqb sep 0 ≡ false) where
+    pub cell-right : eqb (gapBefore s kind k sep .answer) 0 ≡ true → nextCell s kind k year sep ≡ nextField s kind k year
+    unfolding nextCell
+    cell-right e = passed-over _ _ (eqb sep 0) cells ∙ chosen _ _ (eqb (gapBefore s kind k sep .answer) 0) e
+
+    pub cell-wrong : eqb (gapBefore s kind k sep .answer) 0 ≡ false → nextCell s kind k year sep ≡ gapBefore s kind k sep
+    unfolding nextCell
+    cell-wrong e = passed-over _ _ (eqb sep 0) cells ∙ passed-over _ _ (eqb (gapBefore s kind k sep .answer) 0) e
+
+  -- it is within the line too
+  pub cell-short : nextCell s kind k year sep .used ≤ length s
+  cell-short = go (test (eqb sep 0)) (test (eqb (gapBefore s kind k sep .answer) 0))
+    where
+      go : Tested (eqb sep 0) → Tested (eqb (gapBefore s kind k sep .answer) 0) → nextCell s kind k year sep .used ≤ length s
+      go (holds e) g = subst⁻¹ (λ (r : Found). r .used ≤ length s) (cell-plain e) (next-short s kind k year)
+      go (fails e) (holds g) = subst⁻¹ (λ (r : Found). r .used ≤ length s) (cell-right e g) (next-short s kind k year)
+      go (fails e) (fails g) =
+          subst⁻¹ (λ (r : Found). r .used ≤ length s) (cell-wrong e g)
+          (omega (arith, said-short (take (gapsIn s) s) sep (itemDue (drop (gapsIn s) s) kind k), length-take (gapsIn s) s, gaps-short s))
+
 -- the numbers from the k-th item on, and what is said past them, by the k-th
-module _ (n : ℕ) (s : List ℕ) (kind k year : ℕ) where
-  none-left : eqb (nextField s kind k year .answer) 0 ≡ false → valuesFrom (suc n) s kind k year ≡ []
+module _ (n : ℕ) (s : List ℕ) (kind k year sep : ℕ) where
+  none-left : eqb (nextCell s kind k year sep .answer) 0 ≡ false → valuesFrom (suc n) s kind k year sep ≡ []
   unfolding valuesFrom
-  none-left e = passed-over _ _ (eqb (nextField s kind k year .answer) 0) e
+  none-left e = passed-over _ _ (eqb (nextCell s kind k year sep .answer) 0) e
 
-  one-left : eqb (nextField s kind k year .answer) 0 ≡ true → valuesFrom (suc n) s kind k year ≡ (nextField s kind k year .value ∷ valuesFrom n (drop (nextField s kind k year .used) s) kind (k + 1) year)
+  one-left : eqb (nextCell s kind k year sep .answer) 0 ≡ true → valuesFrom (suc n) s kind k year sep ≡ (nextCell s kind k year sep .value ∷ valuesFrom n (drop (nextCell s kind k year sep .used) s) kind (k + 1) year sep)
   unfolding valuesFrom
-  one-left e = chosen _ _ (eqb (nextField s kind k year .answer) 0) e
+  one-left e = chosen _ _ (eqb (nextCell s kind k year sep .answer) 0) e
 
-  end-here : eqb (nextField s kind k year .answer) 0 ≡ false → endFrom (suc n) s kind k year ≡ saidAt (nextField s kind k year .answer) (nextField s kind k year .used)
+  end-here : eqb (nextCell s kind k year sep .answer) 0 ≡ false → endFrom (suc n) s kind k year sep ≡ saidAt (nextCell s kind k year sep .answer) (nextCell s kind k year sep .used)
   unfolding endFrom
-  end-here e = passed-over _ _ (eqb (nextField s kind k year .answer) 0) e
+  end-here e = passed-over _ _ (eqb (nextCell s kind k year sep .answer) 0) e
 
   end-later :
-      eqb (nextField s kind k year .answer) 0 ≡ true →
-      endFrom (suc n) s kind k year ≡ saidAt (endFrom n (drop (nextField s kind k year .used) s) kind (k + 1) year .answer) (nextField s kind k year .used + endFrom n (drop (nextField s kind k year .used) s) kind (k + 1) year .used)
+      eqb (nextCell s kind k year sep .answer) 0 ≡ true →
+      endFrom (suc n) s kind k year sep ≡ saidAt (endFrom n (drop (nextCell s kind k year sep .used) s) kind (k + 1) year sep .answer) (nextCell s kind k year sep .used + endFrom n (drop (nextCell s kind k year sep .used) s) kind (k + 1) year sep .used)
   unfolding endFrom
-  end-later e = chosen _ _ (eqb (nextField s kind k year .answer) 0) e
+  end-later e = chosen _ _ (eqb (nextCell s kind k year sep .answer) 0) e
 
 -- so many turns read no more items
-pub values-few : (n : ℕ) (s : List ℕ) (kind k year : ℕ) → length (valuesFrom n s kind k year) ≤ n
+pub values-few : (n : ℕ) (s : List ℕ) (kind k year sep : ℕ) → length (valuesFrom n s kind k year sep) ≤ n
 unfolding valuesFrom
-values-few zero s kind k year = omega arith
-values-few (suc n) s kind k year = go (values-few n (drop (nextField s kind k year .used) s) kind (k + 1) year) (test (eqb (nextField s kind k year .answer) 0))
+values-few zero s kind k year sep = omega arith
+values-few (suc n) s kind k year sep = go (values-few n (drop (nextCell s kind k year sep .used) s) kind (k + 1) year sep) (test (eqb (nextCell s kind k year sep .answer) 0))
   where
-    go : length (valuesFrom n (drop (nextField s kind k year .used) s) kind (k + 1) year) ≤ n → Tested (eqb (nextField s kind k year .answer) 0) → length (valuesFrom (suc n) s kind k year) ≤ suc n
-    go h (holds e) = subst⁻¹ (λ (l : List ℕ). length l ≤ suc n) (one-left n s kind k year e) (omega arith)
-    go h (fails e) = subst⁻¹ (λ (l : List ℕ). length l ≤ suc n) (none-left n s kind k year e) (omega arith)
+    go : length (valuesFrom n (drop (nextCell s kind k year sep .used) s) kind (k + 1) year sep) ≤ n → Tested (eqb (nextCell s kind k year sep .answer) 0) → length (valuesFrom (suc n) s kind k year sep) ≤ suc n
+    go h (holds e) = subst⁻¹ (λ (l : List ℕ). length l ≤ suc n) (one-left n s kind k year sep e) (omega arith)
+    go h (fails e) = subst⁻¹ (λ (l : List ℕ). length l ≤ suc n) (none-left n s kind k year sep e) (omega arith)
 
 -- the outcome once the items are read, by its two tests
 module _ (answer at kind count : ℕ) (values : List ℕ) where
@@ -211,65 +232,65 @@ module _ (answer at kind count : ℕ) (values : List ℕ) where
     ended-whole e = passed-over _ _ (not (eqb answer 255)) (ap not ended) ∙ passed-over _ _ (not (wholeOf kind count)) (ap not e)
 
 -- the outcome of a line of which k items are read, where the rest from a place on has n turns left
-unfoldable pub goingOn : ℕ → List ℕ → ℕ → ℕ → ℕ → ℕ → List ℕ → Parsed
-goingOn n line at kind k year values =
+unfoldable pub goingOn : ℕ → List ℕ → ℕ → ℕ → ℕ → ℕ → ℕ → List ℕ → Parsed
+goingOn n line at kind k year sep values =
     endedBy
-    (endFrom n (drop at line) kind k year .answer)
-    (at + endFrom n (drop at line) kind k year .used)
+    (endFrom n (drop at line) kind k year sep .answer)
+    (at + endFrom n (drop at line) kind k year sep .used)
     kind
-    (k + length (valuesFrom n (drop at line) kind k year))
-    (sets values k (valuesFrom n (drop at line) kind k year))
+    (k + length (valuesFrom n (drop at line) kind k year sep))
+    (sets values k (valuesFrom n (drop at line) kind k year sep))
 
-module _ (line : List ℕ) (at kind k year : ℕ) (values : List ℕ) where
+module _ (line : List ℕ) (at kind k year sep : ℕ) (values : List ℕ) where
   abbrev fieldAt : Found
-  fieldAt = nextField (drop at line) kind k year
+  fieldAt = nextCell (drop at line) kind k year sep
 
-  last-here : goingOn zero line at kind k year values ≡ endedBy (fieldAt .answer) (at + fieldAt .used) kind k values
+  last-here : goingOn zero line at kind k year sep values ≡ endedBy (fieldAt .answer) (at + fieldAt .used) kind k values
   unfolding goingOn valuesFrom endFrom
   last-here = let e : k + 0 ≡ k = omega arith in ap (λ (n : ℕ). endedBy (fieldAt .answer) (at + fieldAt .used) kind n values) e
 
-  ends-here : (n : ℕ) → eqb (fieldAt .answer) 0 ≡ false → goingOn (suc n) line at kind k year values ≡ endedBy (fieldAt .answer) (at + fieldAt .used) kind k values
+  ends-here : (n : ℕ) → eqb (fieldAt .answer) 0 ≡ false → goingOn (suc n) line at kind k year sep values ≡ endedBy (fieldAt .answer) (at + fieldAt .used) kind k values
   unfolding goingOn
   ends-here n e =
-      let v = none-left n (drop at line) kind k year e in
-      let f = end-here n (drop at line) kind k year e in
+      let v = none-left n (drop at line) kind k year sep e in
+      let f = end-here n (drop at line) kind k year sep e in
       let z : k + 0 ≡ k = omega arith in
       (λ i. endedBy (f i .answer) (at + f i .used) kind (k + length (v i)) (sets values k (v i))) ∙ ap (λ (m : ℕ). endedBy (fieldAt .answer) (at + fieldAt .used) kind m values) z
 
-  goes-on : (n : ℕ) → eqb (fieldAt .answer) 0 ≡ true → goingOn (suc n) line at kind k year values ≡ goingOn n line (at + fieldAt .used) kind (k + 1) year (set values k (fieldAt .value))
+  goes-on : (n : ℕ) → eqb (fieldAt .answer) 0 ≡ true → goingOn (suc n) line at kind k year sep values ≡ goingOn n line (at + fieldAt .used) kind (k + 1) year sep (set values k (fieldAt .value))
   unfolding goingOn
   goes-on n e =
       let r : List ℕ = drop (fieldAt .used) (drop at line) in
       let d : r ≡ drop (at + fieldAt .used) line = drop-drop (fieldAt .used) at line in
-      let v = one-left n (drop at line) kind k year e in
-      let f = end-later n (drop at line) kind k year e in
-      let l = endFrom n r kind (k + 1) year in
-      let vs = valuesFrom n r kind (k + 1) year in
+      let v = one-left n (drop at line) kind k year sep e in
+      let f = end-later n (drop at line) kind k year sep e in
+      let l = endFrom n r kind (k + 1) year sep in
+      let vs = valuesFrom n r kind (k + 1) year sep in
       let p : at + (fieldAt .used + l .used) ≡ at + fieldAt .used + l .used = omega arith in
       let q : k + suc (length vs) ≡ k + 1 + length vs = omega arith in
       let o : suc k ≡ k + 1 = omega arith in
       (λ i. endedBy (f i .answer) (at + f i .used) kind (k + length (v i)) (sets values k (v i)))
       ∙ (λ i. endedBy (l .answer) (p i) kind (q i) (sets (set values k (fieldAt .value)) (o i) vs))
-      ∙ (λ i. endedBy (endFrom n (d i) kind (k + 1) year .answer) (at + fieldAt .used + endFrom n (d i) kind (k + 1) year .used) kind (k + 1 + length (valuesFrom n (d i) kind (k + 1) year)) (sets (set values k (fieldAt .value)) (k + 1) (valuesFrom n (d i) kind (k + 1) year)))
+      ∙ (λ i. endedBy (endFrom n (d i) kind (k + 1) year sep .answer) (at + fieldAt .used + endFrom n (d i) kind (k + 1) year sep .used) kind (k + 1 + length (valuesFrom n (d i) kind (k + 1) year sep)) (sets (set values k (fieldAt .value)) (k + 1) (valuesFrom n (d i) kind (k + 1) year sep)))
 
 -- the same of a found item, by whatever name it is known
-module _ (line : List ℕ) (at kind k year : ℕ) (values : List ℕ) (f : Found) (is : f ≡ nextField (drop at line) kind k year) where
-  answer-is : (t : Bool) → eqb (f .answer) 0 ≡ t → eqb (nextField (drop at line) kind k year .answer) 0 ≡ t
+module _ (line : List ℕ) (at kind k year sep : ℕ) (values : List ℕ) (f : Found) (is : f ≡ nextCell (drop at line) kind k year sep) where
+  answer-is : (t : Bool) → eqb (f .answer) 0 ≡ t → eqb (nextCell (drop at line) kind k year sep .answer) 0 ≡ t
   answer-is t e = sym (ap (λ (r : Found). eqb (r .answer) 0) is) ∙ e
 
-  pub going-last : goingOn zero line at kind k year values ≡ endedBy (f .answer) (at + f .used) kind k values
-  going-last = last-here line at kind k year values ∙ sym (ap (λ (r : Found). endedBy (r .answer) (at + r .used) kind k values) is)
+  pub going-last : goingOn zero line at kind k year sep values ≡ endedBy (f .answer) (at + f .used) kind k values
+  going-last = last-here line at kind k year sep values ∙ sym (ap (λ (r : Found). endedBy (r .answer) (at + r .used) kind k values) is)
 
-  pub going-ends : (n : ℕ) → eqb (f .answer) 0 ≡ false → goingOn (suc n) line at kind k year values ≡ endedBy (f .answer) (at + f .used) kind k values
-  going-ends n e = ends-here line at kind k year values n (answer-is false e) ∙ sym (ap (λ (r : Found). endedBy (r .answer) (at + r .used) kind k values) is)
+  pub going-ends : (n : ℕ) → eqb (f .answer) 0 ≡ false → goingOn (suc n) line at kind k year sep values ≡ endedBy (f .answer) (at + f .used) kind k values
+  going-ends n e = ends-here line at kind k year sep values n (answer-is false e) ∙ sym (ap (λ (r : Found). endedBy (r .answer) (at + r .used) kind k values) is)
 
-  pub going-on : (n : ℕ) → eqb (f .answer) 0 ≡ true → goingOn (suc n) line at kind k year values ≡ goingOn n line (at + f .used) kind (k + 1) year (set values k (f .value))
-  going-on n e = goes-on line at kind k year values n (answer-is true e) ∙ sym (ap (λ (r : Found). goingOn n line (at + r .used) kind (k + 1) year (set values k (r .value))) is)
+  pub going-on : (n : ℕ) → eqb (f .answer) 0 ≡ true → goingOn (suc n) line at kind k year sep values ≡ goingOn n line (at + f .used) kind (k + 1) year sep (set values k (f .value))
+  going-on n e = goes-on line at kind k year sep values n (answer-is true e) ∙ sym (ap (λ (r : Found). goingOn n line (at + r .used) kind (k + 1) year sep (set values k (r .value))) is)
 
   pub going-short : at + f .used ≤ at + (length line - at)
   going-short =
-      let e : f .used ≡ nextField (drop at line) kind k year .used = ap (λ (r : Found). r .used) is in
-      omega (arith, next-short (drop at line) kind k year, length-drop at line)
+      let e : f .used ≡ nextCell (drop at line) kind k year sep .used = ap (λ (r : Found). r .used) is in
+      omega (arith, cell-short (drop at line) kind k year sep, length-drop at line)
 
 abbrev zeros : ℕ → List ℕ
 zeros n = replicate n 0
@@ -288,42 +309,47 @@ put-over n vs h =
     sets-eq vs (zeros n) 0 g ∙ ap (λ (l : List ℕ). vs ++ l) (ap (λ (m : ℕ). drop m (zeros n)) z ∙ zeros-left (length vs) n)
 
 -- at the start no item is read
-starts-from : (n : ℕ) (line : List ℕ) (start kind year : ℕ) → goingOn n line start kind 0 year (zeros n) ≡ endedBy
-    (endFrom n (drop start line) kind 0 year .answer)
-    (start + endFrom n (drop start line) kind 0 year .used)
+starts-from : (n : ℕ) (line : List ℕ) (start kind year sep : ℕ) → goingOn n line start kind 0 year sep (zeros n) ≡ endedBy
+    (endFrom n (drop start line) kind 0 year sep .answer)
+    (start + endFrom n (drop start line) kind 0 year sep .used)
     kind
-    (length (valuesFrom n (drop start line) kind 0 year))
-    (valuesFrom n (drop start line) kind 0 year ++ zeros (n - length (valuesFrom n (drop start line) kind 0 year)))
+    (length (valuesFrom n (drop start line) kind 0 year sep))
+    (valuesFrom n (drop start line) kind 0 year sep ++ zeros (n - length (valuesFrom n (drop start line) kind 0 year sep)))
 unfolding goingOn
-starts-from n line start kind year =
-    let vs = valuesFrom n (drop start line) kind 0 year in
-    let l = endFrom n (drop start line) kind 0 year in
+starts-from n line start kind year sep =
+    let vs = valuesFrom n (drop start line) kind 0 year sep in
+    let l = endFrom n (drop start line) kind 0 year sep in
     let z : 0 + length vs ≡ length vs = omega arith in
-    let p = put-over n vs (values-few n (drop start line) kind 0 year) in
+    let p = put-over n vs (values-few n (drop start line) kind 0 year sep) in
     λ i. endedBy (l .answer) (start + l .used) kind (z i) (p i)
 
-pub going-starts : (line : List ℕ) (start kind year : ℕ) → gathered line start kind year ≡ goingOn 261 line start kind 0 year (replicate 261 0)
+pub going-starts : (line : List ℕ) (start kind year sep : ℕ) → gathered line start kind year sep ≡ goingOn 261 line start kind 0 year sep (replicate 261 0)
 unfolding gathered
-going-starts line start kind year = sym (starts-from 261 line start kind year)
-
--- a line of gaps and a comment
-abbrev pub blankAt : ℕ → Parsed
-blankAt at = record { answer = 0; at = at; entry = noEntry }
+going-starts line start kind year sep = sym (starts-from 261 line start kind year sep)
 
 -- a line, by its front
 module _ (line : List ℕ) (year : ℕ) where
   abbrev frontOf : List ℕ
   frontOf = drop (gapsIn line) line
 
-  pub parse-blank : endsHere frontOf ≡ true → parsedOf line year ≡ blankAt (gapsIn line)
+  pub parse-blank : endsHere frontOf ≡ true → parsedOf line year ≡ refusedAt 0 (gapsIn line)
   unfolding parsedOf
   parse-blank e = chosen _ _ (endsHere frontOf) e
 
-  module _ (goes : endsHere frontOf ≡ false) where
-    pub parse-wordless : eqb (wordOf frontOf .kind) 0 ≡ true → parsedOf line year ≡ refusedAt 1 (gapsIn line)
-    unfolding parsedOf
-    parse-wordless e = passed-over _ _ (endsHere frontOf) goes ∙ chosen _ _ (eqb (wordOf frontOf .kind) 0) e
+  abbrev pub otherBefore : ℕ
+  otherBefore = otherAt (take (gapsIn line) line) (separatorOf line)
 
-    pub parse-gathers : eqb (wordOf frontOf .kind) 0 ≡ false → parsedOf line year ≡ gathered line (gapsIn line + wordOf frontOf .used) (wordOf frontOf .kind) year
+  module _ (goes : endsHere frontOf ≡ false) where
+    pub parse-other : ltb otherBefore (gapsIn line) ≡ true → parsedOf line year ≡ refusedAt 13 otherBefore
     unfolding parsedOf
-    parse-gathers e = passed-over _ _ (endsHere frontOf) goes ∙ passed-over _ _ (eqb (wordOf frontOf .kind) 0) e
+    parse-other o = passed-over _ _ (endsHere frontOf) goes ∙ chosen _ _ (ltb otherBefore (gapsIn line)) o
+
+    module _ (same : ltb otherBefore (gapsIn line) ≡ false) where
+      pub parse-wordless : eqb (wordOf frontOf .kind) 0 ≡ true → parsedOf line year ≡ refusedAt 1 (gapsIn line)
+      unfolding parsedOf
+      parse-wordless e = passed-over _ _ (endsHere frontOf) goes ∙ passed-over _ _ (ltb otherBefore (gapsIn line)) same ∙ chosen _ _ (eqb (wordOf frontOf .kind) 0) e
+
+      pub parse-gathers :
+          eqb (wordOf frontOf .kind) 0 ≡ false → parsedOf line year ≡ gathered line (gapsIn line + wordOf frontOf .used) (wordOf frontOf .kind) year (separatorOf line)
+      unfolding parsedOf
+      parse-gathers e = passed-over _ _ (endsHere frontOf) goes ∙ passed-over _ _ (ltb otherBefore (gapsIn line)) same ∙ passed-over _ _ (eqb (wordOf frontOf .kind) 0) e

@@ -3,11 +3,11 @@ use Prim.Native.Nat.{ℕ, zero, suc, _+_, _-_}
 use mathlib.Core.List.{List, [], _∷_, _++_}
 use mathlib.Core.Bool.{Bool, true, false, _&&_, not, cond}
 use lib.Dec.{eqb, ltb, leb}
-use lib.ListN.{length, drop, replicate}
+use lib.ListN.{length, take, drop, replicate}
 use Rattle.shape.specs.declared.Entry.{Entry}
 use Rattle.shape.specs.Shape.{itemOf, mostOf, wholeOf, entryOf, noEntry}
 use Rattle.scan.specs.declared.Found.{Found}
-use Rattle.scan.specs.Scan.{gapsIn, endsHere, partedHere, itemFound}
+use Rattle.scan.specs.Scan.{saidAt, gapsIn, endsHere, partedHere, separatorOf, otherAt, gapSaid, itemFound}
 use Rattle.entry.specs.declared.Word.{Word}
 use Rattle.entry.specs.declared.Parsed.{Parsed}
 
@@ -37,10 +37,6 @@ wordOf s =
     (cond (isWord s (wordText 3)) (wordAs 3)
     (cond (isWord s (wordText 4)) (wordAs 4) (wordAs 0))))
 
--- what is said of a place so many bytes on
-abbrev pub saidAt : ℕ → ℕ → Found
-saidAt answer used = record { answer = answer; value = 0; used = used }
-
 -- an item in front, parted from what follows; 10: a gap
 unfoldable pub partedItem : List ℕ → ℕ → Found → Found
 partedItem s skipped f =
@@ -55,20 +51,34 @@ nextField s kind k year =
     (cond (leb (mostOf kind) k) (saidAt 11 (gapsIn s))
     (partedItem s (gapsIn s) (itemFound (drop (gapsIn s) s) (itemOf kind k) year)))
 
+-- whether the line goes on with an item that it has room for
+unfoldable pub itemDue : List ℕ → ℕ → ℕ → Bool
+itemDue s kind k = not (endsHere s) && ltb k (mostOf kind)
+
+-- the gap in front of the k-th item, in a line of cells
+abbrev pub gapBefore : List ℕ → ℕ → ℕ → ℕ → Found
+gapBefore s kind k sep = gapSaid (take (gapsIn s) s) sep (itemDue (drop (gapsIn s) s) kind k)
+
+-- the k-th item of a line with a separator, where the gap in front of it is as such a line asks; separator 0: no line of cells
+unfoldable pub nextCell : List ℕ → ℕ → ℕ → ℕ → ℕ → Found
+nextCell s kind k year sep =
+    cond (eqb sep 0) (nextField s kind k year)
+    (cond (eqb (gapBefore s kind k sep .answer) 0) (nextField s kind k year) (gapBefore s kind k sep))
+
 -- the numbers of the items from the k-th on, up to one that is not there, and what is said there
-unfoldable pub valuesFrom : ℕ → List ℕ → ℕ → ℕ → ℕ → List ℕ
-valuesFrom zero s kind k year = []
-valuesFrom (suc n) s kind k year =
-    cond (eqb (nextField s kind k year .answer) 0)
-    (nextField s kind k year .value ∷ valuesFrom n (drop (nextField s kind k year .used) s) kind (k + 1) year)
+unfoldable pub valuesFrom : ℕ → List ℕ → ℕ → ℕ → ℕ → ℕ → List ℕ
+valuesFrom zero s kind k year sep = []
+valuesFrom (suc n) s kind k year sep =
+    cond (eqb (nextCell s kind k year sep .answer) 0)
+    (nextCell s kind k year sep .value ∷ valuesFrom n (drop (nextCell s kind k year sep .used) s) kind (k + 1) year sep)
     []
 
-unfoldable pub endFrom : ℕ → List ℕ → ℕ → ℕ → ℕ → Found
-endFrom zero s kind k year = nextField s kind k year
-endFrom (suc n) s kind k year =
-    cond (eqb (nextField s kind k year .answer) 0)
-    (saidAt (endFrom n (drop (nextField s kind k year .used) s) kind (k + 1) year .answer) (nextField s kind k year .used + endFrom n (drop (nextField s kind k year .used) s) kind (k + 1) year .used))
-    (saidAt (nextField s kind k year .answer) (nextField s kind k year .used))
+unfoldable pub endFrom : ℕ → List ℕ → ℕ → ℕ → ℕ → ℕ → Found
+endFrom zero s kind k year sep = nextCell s kind k year sep
+endFrom (suc n) s kind k year sep =
+    cond (eqb (nextCell s kind k year sep .answer) 0)
+    (saidAt (endFrom n (drop (nextCell s kind k year sep .used) s) kind (k + 1) year sep .answer) (nextCell s kind k year sep .used + endFrom n (drop (nextCell s kind k year sep .used) s) kind (k + 1) year sep .used))
+    (saidAt (nextCell s kind k year sep .answer) (nextCell s kind k year sep .used))
 
 -- no entry: what was expected, and where
 abbrev pub refusedAt : ℕ → ℕ → Parsed
@@ -82,18 +92,19 @@ endedBy answer at kind count values =
     (record { answer = 0; at = at; entry = record { kind = kind; count = count; values = values } }))
 
 -- the items of a line from a place on: at most 261
-unfoldable pub gathered : List ℕ → ℕ → ℕ → ℕ → Parsed
-gathered line start kind year =
+unfoldable pub gathered : List ℕ → ℕ → ℕ → ℕ → ℕ → Parsed
+gathered line start kind year sep =
     endedBy
-    (endFrom 261 (drop start line) kind 0 year .answer)
-    (start + endFrom 261 (drop start line) kind 0 year .used)
+    (endFrom 261 (drop start line) kind 0 year sep .answer)
+    (start + endFrom 261 (drop start line) kind 0 year sep .used)
     kind
-    (length (valuesFrom 261 (drop start line) kind 0 year))
-    (entryOf kind (valuesFrom 261 (drop start line) kind 0 year) .values)
+    (length (valuesFrom 261 (drop start line) kind 0 year sep))
+    (entryOf kind (valuesFrom 261 (drop start line) kind 0 year sep) .values)
 
--- 1: a word
+-- 13: another separator than the line's before its word; 1: a word
 unfoldable pub parsedOf : List ℕ → ℕ → Parsed
 parsedOf line year =
     cond (endsHere (drop (gapsIn line) line)) (record { answer = 0; at = gapsIn line; entry = noEntry })
+    (cond (ltb (otherAt (take (gapsIn line) line) (separatorOf line)) (gapsIn line)) (refusedAt 13 (otherAt (take (gapsIn line) line) (separatorOf line)))
     (cond (eqb (wordOf (drop (gapsIn line) line) .kind) 0) (refusedAt 1 (gapsIn line))
-    (gathered line (gapsIn line + wordOf (drop (gapsIn line) line) .used) (wordOf (drop (gapsIn line) line) .kind) year))
+    (gathered line (gapsIn line + wordOf (drop (gapsIn line) line) .used) (wordOf (drop (gapsIn line) line) .kind) year (separatorOf line))))

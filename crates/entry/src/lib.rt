@@ -1,6 +1,6 @@
 // A line of text read as an entry: its word, then its items, each parted from the next.
 ghost use mathlib.Core.Path.{_≡_};
-ghost use Rattle.entry.specs.Entry.{beginsWith, wordOf, nextField, gathered, parsedOf};
+ghost use Rattle.entry.specs.Entry.{beginsWith, wordOf, nextField, itemDue, nextCell, refusedAt, gathered, parsedOf};
 use scan::Found;
 use shape::Entry;
 
@@ -122,6 +122,32 @@ fn next_field(s: &[u8], kind: u8, k: usize, year: u16) -> Found
     }
 }
 
+// Whether a line goes on with an item that a line of its sort has room for.
+fn item_due(s: &[u8], kind: u8, k: usize) -> bool
+    ensures { λ r. ⌜ r ≡ itemDue (now (s .entry)) kind k ⌝ }
+{
+    if scan::ends_here(s) {
+        return false;
+    }
+    k < shape::most_of(kind)
+}
+
+// The k-th item of a line, past the gap in front; in a line of cells, where that gap is as such a line asks. The separator is 0 in any other.
+fn next_cell(s: &[u8], kind: u8, k: usize, year: u16, sep: u8) -> Found
+    ensures { λ r. ⌜ r ≡ nextCell (now (s .entry)) kind k year sep ⌝ }
+{
+    if sep == 0 {
+        return next_field(s, kind, k, year);
+    }
+    let skipped = scan::gaps_in(s);
+    let due = item_due(wire::part(s, skipped, s.len()), kind, k);
+    let said = scan::gap_said(wire::part(s, 0, skipped), sep, due);
+    if said.answer != 0 {
+        return said;
+    }
+    next_field(s, kind, k, year)
+}
+
 // The outcome once the items have been read: as many as the line needs, or what was expected instead.
 fn ended(answer: u8, at: usize, kind: u8, count: usize, values: [u32; 261]) -> Parsed
     ensures { λ r. ⌜ r ≡ Rattle.entry.specs.Entry.endedBy answer at kind count values ⌝ }
@@ -160,14 +186,14 @@ fn ended(answer: u8, at: usize, kind: u8, count: usize, values: [u32; 261]) -> P
 }
 
 // The items of a line of a sort, from a place on.
-fn gather(line: &[u8], start: usize, kind: u8, year: u16) -> Parsed
-    ensures { λ r. ⌜ r ≡ gathered (now (line .entry)) start kind year ⌝ }
+fn gather(line: &[u8], start: usize, kind: u8, year: u16, sep: u8) -> Parsed
+    ensures { λ r. ⌜ r ≡ gathered (now (line .entry)) start kind year sep ⌝ }
 {
     let mut values = [0u32; 261];
     let mut at = start;
     let mut k: usize = 0;
     while k < 261 {
-        let f = next_field(wire::part(line, at, line.len()), kind, k, year);
+        let f = next_cell(wire::part(line, at, line.len()), kind, k, year, sep);
         at += f.used;
         if f.answer != 0 {
             return ended(f.answer, at, kind, k, values);
@@ -175,8 +201,23 @@ fn gather(line: &[u8], start: usize, kind: u8, year: u16) -> Parsed
         values[k] = f.value;
         k += 1;
     }
-    let f = next_field(wire::part(line, at, line.len()), kind, k, year);
+    let f = next_cell(wire::part(line, at, line.len()), kind, k, year, sep);
     ended(f.answer, at + f.used, kind, k, values)
+}
+
+// An answer at a place, without an entry.
+fn no_entry(answer: u8, at: usize) -> Parsed
+    ensures { λ r. ⌜ r ≡ refusedAt answer at ⌝ }
+{
+    Parsed {
+        answer,
+        at,
+        entry: Entry {
+            kind: shape::BLANK,
+            count: 0,
+            values: [0; 261],
+        },
+    }
 }
 
 // A line, without its newline. The year is that of the sheet before it, 0 where there is none.
@@ -186,27 +227,16 @@ pub fn parse(line: &[u8], year: u16) -> Parsed
     let skipped = scan::gaps_in(line);
     let rest = wire::part(line, skipped, line.len());
     if scan::ends_here(rest) {
-        return Parsed {
-            answer: 0,
-            at: skipped,
-            entry: Entry {
-                kind: shape::BLANK,
-                count: 0,
-                values: [0; 261],
-            },
-        };
+        return no_entry(0, skipped);
+    }
+    let sep = scan::separator_of(line);
+    let other = scan::other_at(wire::part(line, 0, skipped), sep);
+    if other < skipped {
+        return no_entry(scan::OTHER_SEPARATOR, other);
     }
     let word = word_of(rest);
     if word.kind == shape::BLANK {
-        return Parsed {
-            answer: scan::WORD,
-            at: skipped,
-            entry: Entry {
-                kind: shape::BLANK,
-                count: 0,
-                values: [0; 261],
-            },
-        };
+        return no_entry(scan::WORD, skipped);
     }
-    gather(line, skipped + word.used, word.kind, year)
+    gather(line, skipped + word.used, word.kind, year, sep)
 }

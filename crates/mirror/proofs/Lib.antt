@@ -1,6 +1,7 @@
 pub mod WireBack
 pub mod NumberBack
 pub mod ItemBack
+pub mod Written
 pub mod LineBack
 pub mod RecordBack
 pub mod FieldsBack

@@ -12,10 +12,11 @@ use borrow.Author.Tests.{ltb-false, leb-true, eqb-true, lt-leb, ne-eqb}
 use Rattle.base.proofs.TestLaws.{and-left, and-right}
 use Rattle.wire.specs.Numbers.{byteAt}
 use Rattle.shape.specs.Shape.{itemOf, mostOf, wholeOf, barBefore, entryOf, limitOf, withinFrom}
-use Rattle.scan.specs.Scan.{isGap, gapsIn, endsHere, partedHere}
+use Rattle.scan.specs.Scan.{isGap, saidAt, gapsIn, endsHere, partedHere, separatorOf}
 use Rattle.entry.specs.declared.Parsed.{Parsed}
-use Rattle.entry.specs.Entry.{isWord, wordText, wordAs, wordOf, saidAt, partedItem, nextField, valuesFrom, endFrom, endedBy, gathered, parsedOf}
+use Rattle.entry.specs.Entry.{isWord, wordText, wordAs, wordOf, partedItem, nextField, nextCell, valuesFrom, endFrom, endedBy, gathered, parsedOf}
 use Rattle.line.specs.Line.{itemText, gapText, itemsText, lineText}
+use Rattle.mirror.proofs.Written.{line-celless}
 use Rattle.mirror.proofs.ItemBack.{item-front, item-begins, item-back}
 
 -- a line of a sort has no more items than the sort takes
@@ -82,8 +83,8 @@ field-passed kind k year v rest =
     ∙ drop-append-seam (itemText (itemOf kind k) year v) rest
 
 -- nothing is left: the line has ended
-pub nothing-left : (kind k year : ℕ) → nextField [] kind k year ≡ saidAt 255 0
-unfolding nextField
+pub nothing-left : (kind k year : ℕ) → nextCell [] kind k year 0 ≡ saidAt 255 0
+unfolding nextCell nextField
 nothing-left kind k year = refl
 
 -- a word stands in front where it is written, and is found
@@ -116,13 +117,14 @@ module _ (s : List ℕ) where
 
 -- past its word a line's items are gathered
 pub parsed-on :
-    (kind year : ℕ) (vs : List ℕ) → 1 ≤ kind → kind ≤ 4 → parsedOf (lineText kind year vs) year ≡ gathered (lineText kind year vs) (length (wordText kind)) kind year
+    (kind year : ℕ) (vs : List ℕ) → 1 ≤ kind → kind ≤ 4 → parsedOf (lineText kind year vs) year ≡ gathered (lineText kind year vs) (length (wordText kind)) kind year 0
 unfolding parsedOf
 parsed-on kind year vs l h =
     let items = itemsText kind year 0 vs in
     rw (
       word-gapless items kind l h,
       word-goes-on items kind l h,
+      line-celless kind year vs,
       word-back items kind l h (items-parted kind year 0 vs),
       ne-eqb kind 0 (λ e. omega arith),
       zero-add (length (wordText kind)),
@@ -135,9 +137,9 @@ pub field-back :
     v ≤ limitOf (itemOf kind k) →
     partedHere rest ≡ true →
     (byteAt rest 1 ≡ 45 → ⊥) →
-    nextField (gapText kind k ++ (itemText (itemOf kind k) year v ++ rest)) kind k year
+    nextCell (gapText kind k ++ (itemText (itemOf kind k) year v ++ rest)) kind k year 0
     ≡ record { answer = 0; value = v; used = length (gapText kind k) + length (itemText (itemOf kind k) year v) }
-unfolding nextField partedItem
+unfolding nextCell nextField partedItem
 field-back kind k year v rest room within p q =
     let begins = item-begins (itemOf kind k) year v rest in
     rw (
@@ -155,7 +157,7 @@ first-back :
     (kind k year v : ℕ) (vs : List ℕ) →
     withinFrom kind k (v ∷ vs) ≡ true →
     k < mostOf kind →
-    nextField (itemsText kind year k (v ∷ vs)) kind k year
+    nextCell (itemsText kind year k (v ∷ vs)) kind k year 0
     ≡ record { answer = 0; value = v; used = length (gapText kind k) + length (itemText (itemOf kind k) year v) }
 first-back kind k year v vs w room =
     field-back kind k year v (itemsText kind year (k + 1) vs) room
@@ -165,27 +167,27 @@ first-back kind k year v vs w room =
 
 -- reading written items gives their numbers
 pub values-back :
-    (n kind k year : ℕ) (vs : List ℕ) → withinFrom kind k vs ≡ true → k + length vs ≤ mostOf kind → length vs ≤ n → valuesFrom n (itemsText kind year k vs) kind k year ≡ vs
+    (n kind k year : ℕ) (vs : List ℕ) → withinFrom kind k vs ≡ true → k + length vs ≤ mostOf kind → length vs ≤ n → valuesFrom n (itemsText kind year k vs) kind k year 0 ≡ vs
 unfolding valuesFrom
 values-back zero kind k year [] w m h = refl
 values-back (suc n) kind k year [] w m h = rw (nothing-left kind k year)
 values-back zero kind k year (v ∷ vs) w m h = absurd (omega arith)
 values-back (suc n) kind k year (v ∷ vs) w m h =
     let rest = itemsText kind year (k + 1) vs in
-    let others : valuesFrom n rest kind (k + 1) year ≡ vs =
+    let others : valuesFrom n rest kind (k + 1) year 0 ≡ vs =
     values-back n kind (k + 1) year vs (and-right (leb v (limitOf (itemOf kind k))) (withinFrom kind (k + 1) vs) w) (omega arith) (omega arith) in
     rw (first-back kind k year v vs w (omega arith), field-passed kind k year v rest, others)
 
 -- and comes to the line's end
 pub ends-back :
-    (n kind k year : ℕ) (vs : List ℕ) → withinFrom kind k vs ≡ true → k + length vs ≤ mostOf kind → length vs ≤ n → endFrom n (itemsText kind year k vs) kind k year .answer ≡ 255
+    (n kind k year : ℕ) (vs : List ℕ) → withinFrom kind k vs ≡ true → k + length vs ≤ mostOf kind → length vs ≤ n → endFrom n (itemsText kind year k vs) kind k year 0 .answer ≡ 255
 unfolding endFrom
 ends-back zero kind k year [] w m h = rw (nothing-left kind k year)
 ends-back (suc n) kind k year [] w m h = rw (nothing-left kind k year)
 ends-back zero kind k year (v ∷ vs) w m h = absurd (omega arith)
 ends-back (suc n) kind k year (v ∷ vs) w m h =
     let rest = itemsText kind year (k + 1) vs in
-    let others : endFrom n rest kind (k + 1) year .answer ≡ 255 =
+    let others : endFrom n rest kind (k + 1) year 0 .answer ≡ 255 =
     ends-back n kind (k + 1) year vs (and-right (leb v (limitOf (itemOf kind k))) (withinFrom kind (k + 1) vs) w) (omega arith) (omega arith) in
     rw (first-back kind k year v vs w (omega arith), field-passed kind k year v rest, others)
 
@@ -194,7 +196,7 @@ pub items-back :
     withinFrom kind k vs ≡ true →
     k + length vs ≤ mostOf kind →
     length vs ≤ n →
-    (valuesFrom n (itemsText kind year k vs) kind k year ≡ vs) × (endFrom n (itemsText kind year k vs) kind k year .answer ≡ 255)
+    (valuesFrom n (itemsText kind year k vs) kind k year 0 ≡ vs) × (endFrom n (itemsText kind year k vs) kind k year 0 .answer ≡ 255)
 items-back n kind k year vs w m h = (values-back n kind k year vs w m h, ends-back n kind k year vs w m h)
 
 -- whole and within their limits, they are the line's entry
@@ -204,8 +206,8 @@ pub gathered-back :
     kind ≤ 4 →
     wholeOf kind (length vs) ≡ true →
     withinFrom kind 0 vs ≡ true →
-    gathered (lineText kind year vs) (length (wordText kind)) kind year
-    ≡ record { answer = 0; at = length (wordText kind) + endFrom 261 (itemsText kind year 0 vs) kind 0 year .used; entry = entryOf kind vs }
+    gathered (lineText kind year vs) (length (wordText kind)) kind year 0
+    ≡ record { answer = 0; at = length (wordText kind) + endFrom 261 (itemsText kind year 0 vs) kind 0 year 0 .used; entry = entryOf kind vs }
 unfolding gathered endedBy
 gathered-back kind year vs l h whole within =
     let a : length vs ≤ mostOf kind = whole-most kind (length vs) l h whole in

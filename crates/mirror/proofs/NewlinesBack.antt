@@ -1,28 +1,23 @@
 -- A text as bytes: the lines of the bytes of lines are those lines, with a newline after the last or without. No line of a book's text holds a newline, as
--- every byte of a written line is a space or stands after it; so the bytes that book_read prints stand for the book, comments between the lines included.
+-- no byte of a written line is one; so the bytes that book_read prints stand for the book, comments between the lines included.
 -- Assumes nothing.
-use Prim.Native.Nat.{ℕ, zero, suc, _+_, _/_, _%_, _≤_}
+use Prim.Native.Nat.{ℕ, zero, suc}
 use mathlib.Core.Path.{_≡_, refl, ap, _∙_}
 use mathlib.Core.Bool.{Bool, true, false, cond}
 use mathlib.Core.List.{List, [], _∷_, _++_, append-assoc}
-use lib.Dec.{eqb, ltb, leb}
+use lib.Dec.{eqb}
 use lib.ListN.{length, take, drop}
-use native.Mathlib.Omega.{arith}
 use borrow.Author.Tests.{ne-eqb}
 use Rattle.base.specs.Lists.{All}
 use Rattle.base.proofs.ListLaws.{all-append}
-use Rattle.annex.specs.Times.{minutesIn}
 use Rattle.wire.specs.Cut.{recordsOf, stopFrom}
-use Rattle.text.specs.Text.{digitsIn, numberText}
-use Rattle.pen.specs.Pen.{hexDigit, hexText}
 use Rattle.shape.specs.declared.Entry.{Entry}
-use Rattle.shape.specs.Shape.{itemOf, barBefore}
-use Rattle.entry.specs.Entry.{wordText}
-use Rattle.line.specs.Line.{dateText, timeText, itemText, gapText, itemsText, entryItems, lineOf}
+use Rattle.line.specs.Line.{lineOf}
 use Rattle.unpack.specs.Unpack.{kindIn, unpackedOf, bytesEntry, yearAfter}
 use Rattle.mirror.specs.Mirror.{Bytes}
 use Rattle.mirror.specs.Text.{bytesLinesIn, bytesLines, recordLines, bookLines, bookText, written, right, spoken}
 use Rattle.mirror.specs.Newlines.{textBytes, inFront, textLines, OneLine}
+use Rattle.mirror.proofs.Written.{newline-unwritten}
 use Rattle.mirror.proofs.TextBack.{text-spoken, commented-read-back}
 
 -- a line in front, with its newline
@@ -48,84 +43,9 @@ last-without (m ∷ ls) b l a o =
     line-first m (textBytes ls ++ (b ∷ l)) (a .0) ∙
     ap (λ (ms : List (List ℕ)). m ∷ ms) (last-without ls b l (a .1) o)
 
--- What is written: spaces, and bytes after them.
-
-abbrev Seen : List ℕ → Type 0
-Seen l = All (λ (b : ℕ). 32 ≤ b) l
-
-seen-both : (l m : List ℕ) → Seen l → Seen m → Seen (l ++ m)
-seen-both l m a b = all-append (λ (x : ℕ). 32 ≤ x) l m a b
-
-seen-either : (t : Bool) (l m : List ℕ) → Seen l → Seen m → Seen (cond t l m)
-seen-either true l m a b = a
-seen-either false l m a b = b
-
-seen-one-line : (l : List ℕ) → Seen l → OneLine l
-seen-one-line [] a = tt
-seen-one-line (b ∷ l) a = let h : 32 ≤ b = a .0 in ((λ e. omega arith), seen-one-line l (a .1))
-
-digits-seen : (k n : ℕ) → Seen (digitsIn k n)
-digits-seen zero n = tt
-digits-seen (suc k) n =
-    seen-either (ltb n 10) ((48 + n) ∷ []) (digitsIn k (n / 10) ++ ((48 + n % 10) ∷ []))
-    (omega arith, tt)
-    (seen-both (digitsIn k (n / 10)) ((48 + n % 10) ∷ []) (digits-seen k (n / 10)) (omega arith, tt))
-
-number-seen : (n : ℕ) → Seen (numberText n)
-unfolding numberText
-number-seen n = digits-seen 20 n
-
-hex-digit-seen : (d : ℕ) → 32 ≤ hexDigit d
-hex-digit-seen d = go (ltb d 10)
-  where
-    go : (t : Bool) → 32 ≤ cond t (48 + d) (87 + d)
-    go true = omega arith
-    go false = omega arith
-
-hex-seen : (n : ℕ) → Seen (hexText n)
-hex-seen n = (hex-digit-seen (n / 16 % 16), (hex-digit-seen (n % 16), tt))
-
-date-seen : (year t : ℕ) → Seen (dateText year t)
-unfolding dateText
-date-seen year t =
-    (omega arith, (omega arith, (omega arith, (omega arith, (omega arith, (omega arith, (omega arith, (omega arith, (omega arith, (omega arith, (omega arith, tt)))))))))))
-
-time-seen : (year t : ℕ) → Seen (timeText year t)
-unfolding timeText
-time-seen year t =
-    seen-either (eqb year 0) (numberText t) (cond (leb (minutesIn year) t) (numberText t) (dateText year t)) (number-seen t)
-    (seen-either (leb (minutesIn year) t) (numberText t) (dateText year t) (number-seen t) (date-seen year t))
-
-item-seen : (item year v : ℕ) → Seen (itemText item year v)
-unfolding itemText
-item-seen item year v =
-    seen-either (eqb item 4) (timeText year v) (cond (eqb item 5) (hexText v) (numberText v)) (time-seen year v)
-    (seen-either (eqb item 5) (hexText v) (numberText v) (hex-seen v) (number-seen v))
-
-gap-seen : (kind k : ℕ) → Seen (gapText kind k)
-unfolding gapText
-gap-seen kind k =
-    seen-either (barBefore kind k) (32 ∷ 124 ∷ 32 ∷ []) (32 ∷ []) (omega arith, (omega arith, (omega arith, tt))) (omega arith, tt)
-
-items-seen : (kind year k : ℕ) (vs : List ℕ) → Seen (itemsText kind year k vs)
-items-seen kind year k [] = tt
-items-seen kind year k (v ∷ vs) =
-    let item = itemText (itemOf kind k) year v in
-    let rest = itemsText kind year (k + 1) vs in
-    seen-both (gapText kind k) (item ++ rest) (gap-seen kind k) (seen-both item rest (item-seen (itemOf kind k) year v) (items-seen kind year (k + 1) vs))
-
-word-seen : (kind : ℕ) → Seen (wordText kind)
-word-seen kind =
-    seen-either (eqb kind 1) _ _ (omega arith, (omega arith, (omega arith, (omega arith, (omega arith, tt)))))
-    (seen-either (eqb kind 2) _ _ (omega arith, (omega arith, (omega arith, (omega arith, (omega arith, (omega arith, tt))))))
-    (seen-either (eqb kind 3) _ _ (omega arith, (omega arith, (omega arith, (omega arith, (omega arith, (omega arith, (omega arith, tt)))))))
-    (seen-either (eqb kind 4) _ _ (omega arith, (omega arith, (omega arith, tt))) tt)))
-
 -- a written line holds no newline
 pub line-one-line : (e : Entry) (year : ℕ) → OneLine (lineOf e year)
-line-one-line e year =
-    seen-one-line (lineOf e year)
-    (seen-both (wordText (e .kind)) (entryItems e year) (word-seen (e .kind)) (items-seen (e .kind) year 0 (take (e .count) (e .values))))
+line-one-line e year = newline-unwritten (e .kind) year (take (e .count) (e .values))
 
 -- nor does a line of a book's text
 bytes-one-line : (n : ℕ) (s : List ℕ) → All OneLine (bytesLinesIn n s)

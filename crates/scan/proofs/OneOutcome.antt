@@ -7,6 +7,12 @@ use Rattle.scan.proofs.ends_here.Kinds as ends-here-kinds
 use Rattle.scan.proofs.ends_here.Reads as ends-here
 use Rattle.scan.proofs.parted_here.Kinds as parted-here-kinds
 use Rattle.scan.proofs.parted_here.Reads as parted-here
+use Rattle.scan.proofs.separator_of.Kinds as separator-of-kinds
+use Rattle.scan.proofs.separator_of.Reads as separator-of
+use Rattle.scan.proofs.other_at.Kinds as other-at-kinds
+use Rattle.scan.proofs.other_at.Reads as other-at
+use Rattle.scan.proofs.gap_said.Kinds as gap-said-kinds
+use Rattle.scan.proofs.gap_said.Reads as gap-said
 use Rattle.scan.proofs.item_found.Kinds as item-found-kinds
 use Rattle.scan.proofs.item_found.Reads as item-found
 
@@ -18,6 +24,15 @@ ends-here-one κs a x y v w p q = (alike p q, refl)
 
 pub parted-here-one : OneOutcome parted-here-kinds.ps parted-here-kinds.r parted-here.Post
 parted-here-one κs a x y v w p q = (alike p q, refl)
+
+pub separator-of-one : OneOutcome separator-of-kinds.ps separator-of-kinds.r separator-of.Post
+separator-of-one κs a x y v w p q = (alike p q, refl)
+
+pub other-at-one : OneOutcome other-at-kinds.ps other-at-kinds.r other-at.Post
+other-at-one κs a x y v w p q = (alike p q, refl)
+
+pub gap-said-one : OneOutcome gap-said-kinds.ps gap-said-kinds.r gap-said.Post
+gap-said-one κs a x y v w p q = (alike p q, refl)
 
 pub item-found-one : OneOutcome item-found-kinds.ps item-found-kinds.r item-found.Post
 item-found-one κs a x y v w p q = (alike p q, refl)

@@ -4,16 +4,25 @@ use mathlib.Core.Path.{_≡_, refl, sym, ap, _∙_}
 use mathlib.Core.Bool.{Bool, true, false, _&&_, _||_, not, cond, false≢true, true≢false}
 use mathlib.Core.List.{List, [], _∷_}
 use lib.Dec.{eqb, ltb, leb}
-use lib.ListN.{length, drop, getD, drop-of-length-le, List·getD-eq-default}
-use lib.Seq.{drop-cons}
+use lib.ListN.{length, take, drop, getD, length-drop, drop-of-length-le, List·getD-eq-default}
+use lib.Seq.{take-all, drop-cons}
 use native.Mathlib.Omega.{arith}
 use native.Mathlib.Numerals.{add-one}
 use borrow.Author.Tests.{ltb-true, ltb-false, le-ltb, not-false}
 use Rattle.base.proofs.TestLaws.{Tested, holds, fails, test, and-right}
 use Rattle.wire.specs.Numbers.{byteAt}
+use Rattle.wire.specs.Book.{partOf}
 use Rattle.scan.specs.declared.Found.{Found}
 use Rattle.scan.specs.declared.Run.{Run}
-use Rattle.scan.specs.Scan.{isGap, gapsIn, endsHere, isDigit, grown, runFrom, runOf, numberFound, twoStand, dateStands, dateMinute, dateFound, timeFound, hexValue, hexFound, itemFound, read, expected}
+use Rattle.scan.specs.Scan.{isGap, gapsIn, endsHere, saidAt, separates, separatorOf, firstOf, isOther, otherAt, placeOf, secondOf, gapSaid, isDigit, grown, runFrom, runOf, numberFound, twoStand, dateStands, dateMinute, dateFound, timeFound, hexValue, hexFound, itemFound, read, expected}
+
+-- the part from an offset to the end is what is left there
+pub part-is-rest : (s : List ℕ) (a : ℕ) → partOf s a (length s) ≡ drop a s
+part-is-rest s a = take-all (length s - a) (drop a s) (omega (arith, length-drop a s))
+
+-- and the part from the beginning is what stands in front
+pub part-is-front : (s : List ℕ) (a : ℕ) → partOf s 0 a ≡ take a s
+part-is-front s a = let e : a - 0 ≡ a = omega arith in ap (λ (n : ℕ). take n s) e
 
 -- a line's first byte
 pub empty-ends : (s : List ℕ) → length s ≡ 0 → true ≡ endsHere s
@@ -45,6 +54,65 @@ module _ (s : List ℕ) (i : ℕ) where
   pub digit-ends : (value : ℕ) → length s ≤ i → runFrom value i (drop i s) ≡ record { value = value; used = i }
   digit-ends value h = rw (drop-of-length-le s h) refl
 
+-- the first byte of a sort: one more that is none, the first, and the end
+module _ (p : ℕ → Bool) (s : List ℕ) (i : ℕ) where
+  pub first-goes : i < length s → p (getD s i 0) ≡ false → i + firstOf p (drop i s) ≡ i + 1 + firstOf p (drop (i + 1) s)
+  first-goes h e = rw (add-one, drop-cons s i 0, e) (omega arith)
+
+  pub first-stops : i < length s → p (getD s i 0) ≡ true → i + firstOf p (drop i s) ≡ i
+  first-stops h e = rw (drop-cons s i 0, e) (omega arith)
+
+  pub first-none : length s ≤ i → i + firstOf p (drop i s) ≡ i
+  first-none h = rw (drop-of-length-le s h) (omega arith)
+
+-- it stands within the line, or its place is the line's length
+pub first-short : (p : ℕ → Bool) (s : List ℕ) → firstOf p s ≤ length s
+first-short p [] = omega arith
+first-short p (b ∷ s) = go (first-short p s) (test (p b))
+  where
+    go : firstOf p s ≤ length s → Tested (p b) → firstOf p (b ∷ s) ≤ length (b ∷ s)
+    go h (holds e) = rw e (omega arith)
+    go h (fails e) = rw e (omega arith)
+
+-- a line's separator: at a comment, at one of the three, past any other byte, and at the line's end
+module _ (s : List ℕ) (i : ℕ) where
+  pub comment-first : i < length s → getD s i 0 ≡ 35 → separatorOf (drop i s) ≡ 0
+  comment-first h e = rw (drop-cons s i 0, e)
+
+  pub separator-here : i < length s → eqb (getD s i 0) 35 ≡ false → separates (getD s i 0) ≡ true → separatorOf (drop i s) ≡ getD s i 0
+  separator-here h n e = rw (drop-cons s i 0, n, e)
+
+  pub separator-later : i < length s → eqb (getD s i 0) 35 ≡ false → separates (getD s i 0) ≡ false → separatorOf (drop i s) ≡ separatorOf (drop (i + 1) s)
+  separator-later h n e = rw (add-one, drop-cons s i 0, n, e)
+
+  pub separator-none : length s ≤ i → separatorOf (drop i s) ≡ 0
+  separator-none h = rw (drop-of-length-le s h)
+
+-- a gap of a line of cells, by its tests
+module _ (gap : List ℕ) (sep : ℕ) (due : Bool) where
+  pub gap-other : ltb (otherAt gap sep) (length gap) ≡ true → gapSaid gap sep due ≡ saidAt 13 (otherAt gap sep)
+  unfolding gapSaid
+  gap-other o = rw (gapSaid, o)
+
+  module _ (same : ltb (otherAt gap sep) (length gap) ≡ false) where
+    pub gap-undue : due ≡ false → gapSaid gap sep due ≡ saidAt 0 0
+    unfolding gapSaid
+    gap-undue d = rw (gapSaid, same, d)
+
+    module _ (item : due ≡ true) where
+      pub gap-none : leb (length gap) (placeOf gap sep) ≡ true → gapSaid gap sep due ≡ saidAt 14 (length gap)
+      unfolding gapSaid
+      gap-none n = rw (gapSaid, same, item, n)
+
+      module _ (one : leb (length gap) (placeOf gap sep) ≡ false) where
+        pub gap-empty : ltb (secondOf gap sep) (length gap) ≡ true → gapSaid gap sep due ≡ saidAt 15 (secondOf gap sep)
+        unfolding gapSaid
+        gap-empty t = rw (gapSaid, same, item, one, t)
+
+        pub gap-right : ltb (secondOf gap sep) (length gap) ≡ false → gapSaid gap sep due ≡ saidAt 0 0
+        unfolding gapSaid
+        gap-right t = rw (gapSaid, same, item, one, t)
+
 -- no two digits are looked for past the first 16 places
 pub none-far : (s : List ℕ) (at : ℕ) → 16 ≤ at → twoStand s at ≡ false
 unfolding twoStand
@@ -54,6 +122,19 @@ none-far s at h = rw (twoStand, le-ltb at 16 h) refl
 either-short : (t : Bool) (a b : Found) (n : ℕ) → (t ≡ true → a .used ≤ n) → (t ≡ false → b .used ≤ n) → cond t a b .used ≤ n
 either-short true a b n f g = f refl
 either-short false a b n f g = g refl
+
+-- what is said of a gap is said of a place in it, or of its end
+pub said-short : (gap : List ℕ) (sep : ℕ) (due : Bool) → gapSaid gap sep due .used ≤ length gap
+unfolding gapSaid
+said-short gap sep due =
+    let other = otherAt gap sep in
+    let second = secondOf gap sep in
+    let empty = cond (ltb second (length gap)) (saidAt 15 second) (saidAt 0 0) in
+    let none = cond (leb (length gap) (placeOf gap sep)) (saidAt 14 (length gap)) empty in
+    either-short (ltb other (length gap)) (saidAt 13 other) (cond (not due) (saidAt 0 0) none) (length gap) (λ e. omega (arith, ltb-true other (length gap) e))
+    (λ _. either-short (not due) (saidAt 0 0) none (length gap) (λ _. omega arith)
+    (λ _. either-short (leb (length gap) (placeOf gap sep)) (saidAt 14 (length gap)) empty (length gap) (λ _. omega arith)
+    (λ _. either-short (ltb second (length gap)) (saidAt 15 second) (saidAt 0 0) (length gap) (λ e. omega (arith, ltb-true second (length gap) e)) (λ _. omega arith))))
 
 -- the gaps are within the line
 pub gaps-short : (s : List ℕ) → gapsIn s ≤ length s

@@ -3,7 +3,7 @@ use Prim.Native.Nat.{ℕ, zero, suc, _+_, _-_, _*_, _/_, _%_}
 use mathlib.Core.List.{List, [], _∷_}
 use mathlib.Core.Bool.{Bool, true, false, _&&_, _||_, not, cond}
 use lib.Dec.{eqb, ltb, leb}
-use lib.ListN.{length}
+use lib.ListN.{length, drop}
 use Rattle.wire.specs.Numbers.{byteAt}
 use Rattle.calendar.specs.declared.Minute.{Minute}
 use Rattle.calendar.specs.Calendar.{minuteOf}
@@ -16,6 +16,10 @@ read value used = record { answer = 0; value = value; used = used }
 
 abbrev pub expected : ℕ → Found
 expected answer = record { answer = answer; value = 0; used = 0 }
+
+-- what is said of a place so many bytes on
+abbrev pub saidAt : ℕ → ℕ → Found
+saidAt answer used = record { answer = answer; value = 0; used = used }
 
 -- a space, a tab, a comma, a semicolon, a bar or a carriage return
 unfoldable pub isGap : ℕ → Bool
@@ -32,6 +36,43 @@ endsHere (b ∷ bs) = eqb b 35
 
 abbrev pub partedHere : List ℕ → Bool
 partedHere s = endsHere s || isGap (byteAt s 0)
+
+-- a tab, a comma or a semicolon: each makes a line one of cells
+unfoldable pub separates : ℕ → Bool
+separates b = eqb b 9 || eqb b 44 || eqb b 59
+
+-- the line's separator: the first of the three before the comment; 0: no line of cells
+abbrev pub separatorOf : List ℕ → ℕ
+separatorOf [] = 0
+separatorOf (b ∷ bs) = cond (eqb b 35) 0 (cond (separates b) b (separatorOf bs))
+
+-- where the first byte of a sort stands: the length where none does
+abbrev pub firstOf : (ℕ → Bool) → List ℕ → ℕ
+firstOf p [] = 0
+firstOf p (b ∷ bs) = cond (p b) 0 (suc (firstOf p bs))
+
+-- where "another of the three" stands in a gap
+unfoldable pub isOther : ℕ → ℕ → Bool
+isOther b sep = separates b && not (eqb b sep)
+
+abbrev pub otherAt : List ℕ → ℕ → ℕ
+otherAt gap sep = firstOf (λ (b : ℕ). isOther b sep) gap
+
+-- where the separator first stands in a gap, and where for the second time
+abbrev pub placeOf : List ℕ → ℕ → ℕ
+placeOf gap sep = firstOf (λ (b : ℕ). eqb b sep) gap
+
+abbrev pub secondOf : List ℕ → ℕ → ℕ
+secondOf gap sep = placeOf gap sep + 1 + placeOf (drop (placeOf gap sep + 1) gap) sep
+
+-- a gap of a line of cells: 13 at another separator; and where an item follows it, "exactly one separator": 14 at the item where it has none, and 15 at the
+-- second, where an empty cell ends
+unfoldable pub gapSaid : List ℕ → ℕ → Bool → Found
+gapSaid gap sep due =
+    cond (ltb (otherAt gap sep) (length gap)) (saidAt 13 (otherAt gap sep))
+    (cond (not due) (saidAt 0 0)
+    (cond (leb (length gap) (placeOf gap sep)) (saidAt 14 (length gap))
+    (cond (ltb (secondOf gap sep) (length gap)) (saidAt 15 (secondOf gap sep)) (saidAt 0 0))))
 
 -- "numbers in plain decimal": 0 to 9
 unfoldable pub isDigit : ℕ → Bool

@@ -1,7 +1,7 @@
 // The items of a line of text: gaps between them, numbers, times and hexadecimal digits. Each function reads the front of what is left of the line.
 ghost use mathlib.Core.Path.{_≡_};
 ghost use Prim.Native.Nat.{_-_};
-ghost use Rattle.scan.specs.Scan.{isGap, gapsIn, endsHere, partedHere, runOf, numberFound, dateFound, timeFound, hexFound, itemFound};
+ghost use Rattle.scan.specs.Scan.{isGap, gapsIn, endsHere, partedHere, saidAt, separates, separatorOf, isOther, otherAt, placeOf, gapSaid, runOf, numberFound, dateFound, timeFound, hexFound, itemFound};
 use calendar::Date;
 
 // What a line was expected to have where it does not go on; 0 where an item was read, and `END` where the line has ended.
@@ -28,6 +28,12 @@ pub const GAP: u8 = 10;
 pub const NO_MORE: u8 = 11;
 
 pub const MORE: u8 = 12;
+
+pub const OTHER_SEPARATOR: u8 = 13;
+
+pub const SEPARATOR: u8 = 14;
+
+pub const EMPTY_CELL: u8 = 15;
 
 pub const END: u8 = 255;
 
@@ -100,6 +106,113 @@ pub fn parted_here(s: &[u8]) -> bool
     }
     is_gap(wire::byte_at(s, 0))
 }
+
+// ---- lines of cells
+
+// Whether a byte makes a line one of cells: a tab, a comma or a semicolon.
+fn separates(b: u8) -> bool
+    ensures { λ r. ⌜ r ≡ Rattle.scan.specs.Scan.separates b ⌝ }
+{
+    if b == 9 {
+        return true;
+    }
+    if b == 44 {
+        return true;
+    }
+    b == 59
+}
+
+// The separator of a line of cells: the first before its comment. 0 where there is none.
+pub fn separator_of(line: &[u8]) -> u8
+    ensures { λ r. ⌜ r ≡ separatorOf (now (line .entry)) ⌝ }
+{
+    let mut i = 0;
+    while i < line.len() {
+        let b = line[i];
+        if b == 35 {
+            return 0;
+        }
+        if separates(b) {
+            return b;
+        }
+        i += 1;
+    }
+    0
+}
+
+// Whether a byte is a separator, and not the line's.
+fn is_other(b: u8, sep: u8) -> bool
+    ensures { λ r. ⌜ r ≡ isOther b sep ⌝ }
+{
+    if !separates(b) {
+        return false;
+    }
+    b != sep
+}
+
+// Where in a gap a separator stands that is not the line's; the gap's length where none does.
+pub fn other_at(gap: &[u8], sep: u8) -> usize
+    ensures { λ r. ⌜ r ≡ otherAt (now (gap .entry)) sep ⌝ }
+{
+    let mut at = 0;
+    while at < gap.len() {
+        if is_other(gap[at], sep) {
+            return at;
+        }
+        at += 1;
+    }
+    at
+}
+
+// Where in a gap a byte first stands; the gap's length where it does not.
+fn place_of(gap: &[u8], sep: u8) -> usize
+    ensures { λ r. ⌜ r ≡ placeOf (now (gap .entry)) sep ⌝ }
+{
+    let mut at = 0;
+    while at < gap.len() {
+        if gap[at] == sep {
+            return at;
+        }
+        at += 1;
+    }
+    at
+}
+
+// What is said of a place so many bytes on.
+fn said(answer: u8, used: usize) -> Found
+    ensures { λ r. ⌜ r ≡ saidAt answer used ⌝ }
+{
+    Found {
+        answer,
+        value: 0,
+        used,
+    }
+}
+
+// A gap of a line of cells: 0, or what is wrong with it, and where. `due` says whether an item follows it: then it has exactly one separator.
+pub fn gap_said(gap: &[u8], sep: u8, due: bool) -> Found
+    ensures { λ r. ⌜ r ≡ gapSaid (now (gap .entry)) sep due ⌝ }
+{
+    let other = other_at(gap, sep);
+    if other < gap.len() {
+        return said(OTHER_SEPARATOR, other);
+    }
+    if !due {
+        return said(0, 0);
+    }
+    let first = place_of(gap, sep);
+    if gap.len() <= first {
+        return said(SEPARATOR, gap.len());
+    }
+    let past = first + 1;
+    let second = past + place_of(wire::part(gap, past, gap.len()), sep);
+    if second < gap.len() {
+        return said(EMPTY_CELL, second);
+    }
+    said(0, 0)
+}
+
+// ---- numbers
 
 fn is_digit(b: u8) -> bool
     ensures { λ r. ⌜ r ≡ Rattle.scan.specs.Scan.isDigit b ⌝ }

@@ -7,50 +7,51 @@ use lib.ListN.{drop}
 use native.Mathlib.Omega.{arith}
 use borrow.Author.Needs.{needs}
 use borrow.Author.Tests.{ne-eqb, eq-eqb}
-use Rattle.entry.specs.Entry.{nextField, endedBy, gathered}
-use Rattle.entry.proofs.EntryLaws.{part-is-rest, goingOn, going-starts, going-on, going-ends, going-last, going-short}
+use Rattle.scan.proofs.ScanLaws.{part-is-rest}
+use Rattle.entry.specs.Entry.{nextCell, endedBy, gathered}
+use Rattle.entry.proofs.EntryLaws.{goingOn, going-starts, going-on, going-ends, going-last, going-short}
 use Rattle.entry.proofs.gather.Statement.{statement}
 use Rattle.entry.proofs.gather.Tie as tie
 
 abbrev Inv-loop : tie.InvT-loop
-Inv-loop line start kind year values₀ at₀ k₀ values at k = (k ≤ 261) × (at < 18446744073709551616) × (gathered line start kind year ≡ goingOn (261 - k) line at kind k year values)
+Inv-loop line start kind year sep values₀ at₀ k₀ values at k = (k ≤ 261) × (at < 18446744073709551616) × (gathered line start kind year sep ≡ goingOn (261 - k) line at kind k year sep values)
 
 abbrev μ-loop : tie.MeasureT-loop
-μ-loop line start kind year values₀ at₀ k₀ values at k = 261 - k
+μ-loop line start kind year sep values₀ at₀ k₀ values at k = 261 - k
 
--- what `next_field` answers, of the line itself
+-- what `next_cell` answers, of the line itself
 field :
-    (c : tie.After-next-field Inv-loop μ-loop) →
-    c .next-field .result ≡ nextField (drop (c .before .before .before .loop .at) (c .before .before .before .before .before .args .line .now)) (c .before .before .before .before .before .args .kind) (c .before .before .before .loop .k) (c .before .before .before .before .before .args .year)
+    (c : tie.After-next-cell Inv-loop μ-loop) →
+    c .next-cell .result ≡ nextCell (drop (c .before .before .before .loop .at) (c .before .before .before .before .before .args .line .now)) (c .before .before .before .before .before .args .kind) (c .before .before .before .loop .k) (c .before .before .before .before .before .args .year) (c .before .before .before .before .before .args .sep)
 field c =
     let a = c .before .before .before .before .before .args in
     let l = c .before .before .before .loop in
-    c .next-field .ensures ∙ ap (λ (s : List ℕ). nextField s (a .kind) (l .k) (a .year)) (c .before .part .ensures ∙ part-is-rest (a .line .now) (l .at))
+    c .next-cell .ensures ∙ ap (λ (s : List ℕ). nextCell s (a .kind) (l .k) (a .year) (a .sep)) (c .before .part .ensures ∙ part-is-rest (a .line .now) (l .at))
 
 last-field :
-    (c : tie.After-next-field2 Inv-loop μ-loop) →
-    c .next-field2 .result ≡ nextField (drop (c .before .before .before .loop .at) (c .before .before .before .before .before .args .line .now)) (c .before .before .before .before .before .args .kind) (c .before .before .before .loop .k) (c .before .before .before .before .before .args .year)
+    (c : tie.After-next-cell2 Inv-loop μ-loop) →
+    c .next-cell2 .result ≡ nextCell (drop (c .before .before .before .loop .at) (c .before .before .before .before .before .args .line .now)) (c .before .before .before .before .before .args .kind) (c .before .before .before .loop .k) (c .before .before .before .before .before .args .year) (c .before .before .before .before .before .args .sep)
 last-field c =
     let a = c .before .before .before .before .before .args in
     let l = c .before .before .before .loop in
-    c .next-field2 .ensures ∙ ap (λ (s : List ℕ). nextField s (a .kind) (l .k) (a .year)) (c .before .part2 .ensures ∙ part-is-rest (a .line .now) (l .at))
+    c .next-cell2 .ensures ∙ ap (λ (s : List ℕ). nextCell s (a .kind) (l .k) (a .year) (a .sep)) (c .before .part2 .ensures ∙ part-is-rest (a .line .now) (l .at))
 
 loop-holds : tie.Need-loop-holds Inv-loop μ-loop
 loop-holds c =
     let a = c .before .args in
-    (search needs, search needs, going-starts (a .line .now) (a .start) (a .kind) (a .year))
+    (search needs, search needs, going-starts (a .line .now) (a .start) (a .kind) (a .year) (a .sep))
 
 part-requires : tie.Need-part-requires Inv-loop μ-loop
 part-requires c κs = search needs
 
-next-field-requires : tie.Need-next-field-requires Inv-loop μ-loop
-next-field-requires c κs = search needs
+next-cell-requires : tie.Need-next-cell-requires Inv-loop μ-loop
+next-cell-requires c κs = search needs
 
 add-at : tie.Need-add-at Inv-loop μ-loop
 add-at c =
     let a = c .before .before .before .before .before .before .args in
     let l = c .before .before .before .before .loop in
-    omega (arith, going-short (a .line .now) (l .at) (a .kind) (l .k) (a .year) (l .values) (c .before .next-field .result) (field (c .before)), l .inv .1)
+    omega (arith, going-short (a .line .now) (l .at) (a .kind) (l .k) (a .year) (a .sep) (l .values) (c .before .next-cell .result) (field (c .before)), l .inv .1)
 
 ended-requires : tie.Need-ended-requires Inv-loop μ-loop
 ended-requires c κs = search needs
@@ -59,12 +60,12 @@ returns : tie.Need-returns Inv-loop μ-loop
 returns c =
     let a = c .before .before .before .before .before .before .before .before .before .args in
     let l = c .before .before .before .before .before .before .before .loop in
-    let f = c .before .before .before .before .next-field .result in
+    let f = c .before .before .before .before .next-cell .result in
     let fuel : 261 - l .k ≡ suc (261 - (l .k + 1)) = omega (arith, c .before .before .before .before .before .before .loop-test .taken) in
     _∙_ {b = endedBy (f .answer) (l .at + f .used) (a .kind) (l .k) (l .values)} (c .ended .ensures)
     (sym
-    (l .inv .2 ∙ ap (λ (n : ℕ). goingOn n (a .line .now) (l .at) (a .kind) (l .k) (a .year) (l .values)) fuel ∙
-    going-ends (a .line .now) (l .at) (a .kind) (l .k) (a .year) (l .values) f (field (c .before .before .before .before)) (261 - (l .k + 1)) (ne-eqb (f .answer) 0 (c .before .if1 .taken))))
+    (l .inv .2 ∙ ap (λ (n : ℕ). goingOn n (a .line .now) (l .at) (a .kind) (l .k) (a .year) (a .sep) (l .values)) fuel ∙
+    going-ends (a .line .now) (l .at) (a .kind) (l .k) (a .year) (a .sep) (l .values) f (field (c .before .before .before .before)) (261 - (l .k + 1)) (ne-eqb (f .answer) 0 (c .before .if1 .taken))))
 
 mul-values : tie.Need-mul-values Inv-loop μ-loop
 mul-values c = search needs
@@ -82,25 +83,25 @@ loop-again : tie.Need-loop-again Inv-loop μ-loop
 loop-again c =
     let a = c .before .before .before .before .before .before .before .before .args in
     let l = c .before .before .before .before .before .before .loop in
-    let f = c .before .before .before .next-field .result in
+    let f = c .before .before .before .next-cell .result in
     let fuel : 261 - l .k ≡ suc (261 - (l .k + 1)) = omega (arith, c .before .before .before .before .before .loop-test .taken) in (
       search needs,
-      omega (arith, going-short (a .line .now) (l .at) (a .kind) (l .k) (a .year) (l .values) f (field (c .before .before .before)), l .inv .1),
-      l .inv .2 ∙ ap (λ (n : ℕ). goingOn n (a .line .now) (l .at) (a .kind) (l .k) (a .year) (l .values)) fuel ∙
-          going-on (a .line .now) (l .at) (a .kind) (l .k) (a .year) (l .values) f (field (c .before .before .before)) (261 - (l .k + 1)) (eq-eqb (f .answer) 0 (c .if1 .left)),
+      omega (arith, going-short (a .line .now) (l .at) (a .kind) (l .k) (a .year) (a .sep) (l .values) f (field (c .before .before .before)), l .inv .1),
+      l .inv .2 ∙ ap (λ (n : ℕ). goingOn n (a .line .now) (l .at) (a .kind) (l .k) (a .year) (a .sep) (l .values)) fuel ∙
+          going-on (a .line .now) (l .at) (a .kind) (l .k) (a .year) (a .sep) (l .values) f (field (c .before .before .before)) (261 - (l .k + 1)) (eq-eqb (f .answer) 0 (c .if1 .left)),
     )
 
 part-requires-2 : tie.Need-part-requires-2 Inv-loop μ-loop
 part-requires-2 c κs = search needs
 
-next-field-requires-2 : tie.Need-next-field-requires-2 Inv-loop μ-loop
-next-field-requires-2 c κs = search needs
+next-cell-requires-2 : tie.Need-next-cell-requires-2 Inv-loop μ-loop
+next-cell-requires-2 c κs = search needs
 
 add-ended : tie.Need-add-ended Inv-loop μ-loop
 add-ended c =
     let a = c .before .before .before .before .before .before .args in
     let l = c .before .before .before .before .loop in
-    omega (arith, going-short (a .line .now) (l .at) (a .kind) (l .k) (a .year) (l .values) (c .before .next-field2 .result) (last-field (c .before)), l .inv .1)
+    omega (arith, going-short (a .line .now) (l .at) (a .kind) (l .k) (a .year) (a .sep) (l .values) (c .before .next-cell2 .result) (last-field (c .before)), l .inv .1)
 
 ended-requires-2 : tie.Need-ended-requires-2 Inv-loop μ-loop
 ended-requires-2 c κs = search needs
@@ -109,12 +110,12 @@ returns-2 : tie.Need-returns-2 Inv-loop μ-loop
 returns-2 c =
     let a = c .before .before .before .before .before .before .before .args in
     let l = c .before .before .before .before .before .loop in
-    let f = c .before .before .next-field2 .result in
+    let f = c .before .before .next-cell2 .result in
     let fuel : 261 - l .k ≡ 0 = omega (arith, c .before .before .before .before .loop-test .left) in
     _∙_ {b = endedBy (f .answer) (l .at + f .used) (a .kind) (l .k) (l .values)} (c .ended2 .ensures)
     (sym
-    (l .inv .2 ∙ ap (λ (n : ℕ). goingOn n (a .line .now) (l .at) (a .kind) (l .k) (a .year) (l .values)) fuel ∙
-    going-last (a .line .now) (l .at) (a .kind) (l .k) (a .year) (l .values) f (last-field (c .before .before))))
+    (l .inv .2 ∙ ap (λ (n : ℕ). goingOn n (a .line .now) (l .at) (a .kind) (l .k) (a .year) (a .sep) (l .values)) fuel ∙
+    going-last (a .line .now) (l .at) (a .kind) (l .k) (a .year) (a .sep) (l .values) f (last-field (c .before .before))))
 
 pub gather-spec : {M : Type 1} → statement M
 gather-spec =
@@ -124,7 +125,7 @@ gather-spec =
     μ-loop
     loop-holds
     part-requires
-    next-field-requires
+    next-cell-requires
     add-at
     ended-requires
     returns
@@ -134,7 +135,7 @@ gather-spec =
     loop-less
     loop-again
     part-requires-2
-    next-field-requires-2
+    next-cell-requires-2
     add-ended
     ended-requires-2
     returns-2)

@@ -4,7 +4,8 @@ use lib.ListN.{length}
 use borrow.Author.Needs.{needs}
 use borrow.Author.Tests.{not-true, not-false}
 use Rattle.scan.specs.Scan.{partedHere}
-use Rattle.entry.proofs.EntryLaws.{part-is-rest, no-word, word-parted}
+use Rattle.scan.proofs.ScanLaws.{part-is-rest}
+use Rattle.entry.proofs.EntryLaws.{no-word, word-parted}
 use Rattle.entry.proofs.is_word.Statement.{statement}
 use Rattle.entry.proofs.is_word.Tie as tie
 

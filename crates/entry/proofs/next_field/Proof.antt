@@ -10,9 +10,9 @@ use borrow.Author.Needs.{needs}
 use borrow.Author.Tests.{le-leb, lt-leb, ne-eqb, eq-eqb, not-true, not-false}
 use Rattle.shape.specs.Shape.{mostOf}
 use Rattle.scan.specs.declared.Found.{Found}
-use Rattle.scan.specs.Scan.{read, gapsIn, endsHere, partedHere, itemFound}
-use Rattle.entry.specs.Entry.{saidAt}
-use Rattle.entry.proofs.EntryLaws.{part-is-rest, itemHere, item-fits, next-ended, next-over, next-none, next-joined, next-stands}
+use Rattle.scan.specs.Scan.{read, saidAt, gapsIn, endsHere, partedHere, itemFound}
+use Rattle.scan.proofs.ScanLaws.{part-is-rest}
+use Rattle.entry.proofs.EntryLaws.{itemHere, item-fits, next-ended, next-over, next-none, next-joined, next-stands}
 use Rattle.entry.proofs.next_field.Statement.{statement}
 use Rattle.entry.proofs.next_field.Tie as tie
 

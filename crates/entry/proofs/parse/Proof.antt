@@ -2,16 +2,16 @@
 use Prim.Native.Nat.{ℕ, _+_}
 use mathlib.Core.Path.{_≡_, sym, ap, _∙_}
 use mathlib.Core.Bool.{true, false}
-use lib.Dec.{eqb}
-use lib.ListN.{drop}
+use lib.Dec.{eqb, ltb}
+use lib.ListN.{take, drop}
 use native.Mathlib.Omega.{arith}
 use borrow.Author.Needs.{needs}
-use borrow.Author.Tests.{ne-eqb, eq-eqb}
-use Rattle.scan.specs.Scan.{gapsIn, endsHere}
-use Rattle.scan.proofs.ScanLaws.{gaps-short}
+use borrow.Author.Tests.{ne-eqb, eq-eqb, lt-ltb, le-ltb}
+use Rattle.scan.specs.Scan.{gapsIn, endsHere, otherAt}
+use Rattle.scan.proofs.ScanLaws.{part-is-rest, part-is-front, gaps-short}
 use Rattle.entry.specs.declared.Word.{Word}
 use Rattle.entry.specs.Entry.{wordOf, refusedAt, gathered}
-use Rattle.entry.proofs.EntryLaws.{part-is-rest, word-short, blankAt, parse-blank, parse-wordless, parse-gathers}
+use Rattle.entry.proofs.EntryLaws.{word-short, otherBefore, parse-blank, parse-other, parse-wordless, parse-gathers}
 use Rattle.entry.proofs.parse.Statement.{statement}
 use Rattle.entry.proofs.parse.Tie as tie
 
@@ -27,8 +27,19 @@ ends c = c .ends-here .ensures ∙ ap endsHere (rest (c .before))
 goes : (c : tie.Else1) → endsHere (drop (gapsIn (c .before .before .before .before .before .args .line .now)) (c .before .before .before .before .before .args .line .now)) ≡ false
 goes c = sym (ends (c .before)) ∙ c .if1 .left
 
-word : (c : tie.After-word-of) → c .word-of .result ≡ wordOf (drop (gapsIn (c .before .before .before .before .before .before .args .line .now)) (c .before .before .before .before .before .before .args .line .now))
-word c = c .word-of .ensures ∙ ap wordOf (rest (c .before .before .before))
+other : (c : tie.After-other-at) → c .other-at .result ≡ otherBefore (c .before .before .before .before .before .before .before .before .args .line .now) (c .before .before .before .before .before .before .before .before .args .year)
+other c =
+    let s = c .before .before .before .before .before .before .before .before .args .line .now in
+    let g = c .before .before .before .before .before .before .gaps-in in
+    let front = c .before .part2 .ensures ∙ part-is-front s (g .result) ∙ ap (λ (n : ℕ). take n s) (g .ensures) in
+    c .other-at .ensures ∙ (λ i. otherAt (front i) (c .before .before .separator-of .ensures i))
+
+same : (c : tie.Else2) → ltb (otherBefore (c .before .before .before .before .before .before .before .before .before .args .line .now) (c .before .before .before .before .before .before .before .before .before .args .year)) (gapsIn (c .before .before .before .before .before .before .before .before .before .args .line .now)) ≡ false
+same c =
+    sym (λ i. ltb (other (c .before) i) (c .before .before .before .before .before .before .before .gaps-in .ensures i)) ∙ le-ltb (c .before .other-at .result) (c .before .before .before .before .before .before .before .gaps-in .result) (c .if2 .left)
+
+word : (c : tie.After-word-of) → c .word-of .result ≡ wordOf (drop (gapsIn (c .before .before .before .before .before .before .before .before .before .before .args .line .now)) (c .before .before .before .before .before .before .before .before .before .before .args .line .now))
+word c = c .word-of .ensures ∙ ap wordOf (rest (c .before .before .before .before .before .before .before))
 
 gaps-in-requires : tie.Need-gaps-in-requires
 gaps-in-requires c κs = search needs
@@ -39,39 +50,67 @@ part-requires c κs = search needs
 ends-here-requires : tie.Need-ends-here-requires
 ends-here-requires c κs = search needs
 
+no-entry-requires : tie.Need-no-entry-requires
+no-entry-requires c κs = search needs
+
 returns : tie.Need-returns
 returns c =
-    let a = c .before .before .before .before .before .args in
-    ap blankAt (c .before .before .before .gaps-in .ensures) ∙ sym (parse-blank (a .line .now) (a .year) (sym (ends (c .before)) ∙ c .if1 .taken))
+    let a = c .before .before .before .before .before .before .args in
+    c .no-entry .ensures ∙ ap (refusedAt 0) (c .before .before .before .before .gaps-in .ensures) ∙ sym (parse-blank (a .line .now) (a .year) (sym (ends (c .before .before)) ∙ c .before .if1 .taken))
+
+separator-of-requires : tie.Need-separator-of-requires
+separator-of-requires c κs = search needs
+
+part-requires-2 : tie.Need-part-requires-2
+part-requires-2 c κs = search needs
+
+other-at-requires : tie.Need-other-at-requires
+other-at-requires c κs = search needs
+
+no-entry-requires-2 : tie.Need-no-entry-requires-2
+no-entry-requires-2 c κs = search needs
+
+returns-2 : tie.Need-returns-2
+returns-2 c =
+    let a = c .before .before .before .before .before .before .before .before .before .before .args in
+    let o = other (c .before .before) in
+    let is : ltb (otherBefore (a .line .now) (a .year)) (gapsIn (a .line .now)) ≡ true =
+    sym (λ i. ltb (o i) (c .before .before .before .before .before .before .before .before .gaps-in .ensures i)) ∙ lt-ltb (c .before .before .other-at .result) (c .before .before .before .before .before .before .before .before .gaps-in .result) (c .before .if2 .taken) in
+    c .no-entry2 .ensures ∙ ap (refusedAt 13) o ∙ sym (parse-other (a .line .now) (a .year) (goes (c .before .before .before .before .before)) is)
 
 word-of-requires : tie.Need-word-of-requires
 word-of-requires c κs = search needs
 
-returns-2 : tie.Need-returns-2
-returns-2 c =
-    let a = c .before .before .before .before .before .before .before .before .args in
+no-entry-requires-3 : tie.Need-no-entry-requires-3
+no-entry-requires-3 c κs = search needs
+
+returns-3 : tie.Need-returns-3
+returns-3 c =
+    let a = c .before .before .before .before .before .before .before .before .before .before .before .before .before .args in
     let none : eqb (wordOf (drop (gapsIn (a .line .now)) (a .line .now)) .kind) 0 ≡ true =
-    sym (ap (λ (w : Word). eqb (w .kind) 0) (word (c .before .before))) ∙ eq-eqb (c .before .before .word-of .result .kind) 0 (c .if2 .taken) in
-    ap (refusedAt 1) (c .before .before .before .before .before .before .gaps-in .ensures) ∙ sym (parse-wordless (a .line .now) (a .year) (goes (c .before .before .before)) none)
+    sym (ap (λ (w : Word). eqb (w .kind) 0) (word (c .before .before .before))) ∙ eq-eqb (c .before .before .before .word-of .result .kind) 0 (c .before .if3 .taken) in
+    c .no-entry3 .ensures ∙ ap (refusedAt 1) (c .before .before .before .before .before .before .before .before .before .before .before .gaps-in .ensures) ∙ sym (parse-wordless (a .line .now) (a .year) (goes (c .before .before .before .before .before .before .before .before)) (same (c .before .before .before .before)) none)
 
 add-gather : tie.Need-add-gather
 add-gather c =
-    let a = c .before .before .before .before .before .before .before .before .before .args in
+    let a = c .before .before .before .before .before .before .before .before .before .before .before .before .before .args in
     let w : c .before .before .before .word-of .result .used ≡ wordOf (drop (gapsIn (a .line .now)) (a .line .now)) .used = ap (λ (r : Word). r .used) (word (c .before .before .before)) in
-    let g : c .before .before .before .before .before .before .before .gaps-in .result ≡ gapsIn (a .line .now) = c .before .before .before .before .before .before .before .gaps-in .ensures in
+    let g : c .before .before .before .before .before .before .before .before .before .before .before .gaps-in .result ≡ gapsIn (a .line .now) = c .before .before .before .before .before .before .before .before .before .before .before .gaps-in .ensures in
     omega (arith, gaps-short (a .line .now), word-short (drop (gapsIn (a .line .now)) (a .line .now)))
 
 gather-requires : tie.Need-gather-requires
 gather-requires c κs = search needs
 
-returns-3 : tie.Need-returns-3
-returns-3 c =
-    let a = c .before .before .before .before .before .before .before .before .before .before .args in
+returns-4 : tie.Need-returns-4
+returns-4 c =
+    let a = c .before .before .before .before .before .before .before .before .before .before .before .before .before .before .args in
     let w = word (c .before .before .before .before) in
-    let g = c .before .before .before .before .before .before .before .before .gaps-in .ensures in
+    let g = c .before .before .before .before .before .before .before .before .before .before .before .before .gaps-in .ensures in
+    let p = c .before .before .before .before .before .before .before .before .separator-of .ensures in
     let there : eqb (wordOf (drop (gapsIn (a .line .now)) (a .line .now)) .kind) 0 ≡ false =
-    sym (ap (λ (r : Word). eqb (r .kind) 0) w) ∙ ne-eqb (c .before .before .before .before .word-of .result .kind) 0 (c .before .before .if2 .left) in
-    c .gather .ensures ∙ (λ i. gathered (a .line .now) (g i + w i .used) (w i .kind) (a .year)) ∙ sym (parse-gathers (a .line .now) (a .year) (goes (c .before .before .before .before .before)) there)
+    sym (ap (λ (r : Word). eqb (r .kind) 0) w) ∙ ne-eqb (c .before .before .before .before .word-of .result .kind) 0 (c .before .before .if3 .left) in
+    c .gather .ensures ∙ (λ i. gathered (a .line .now) (g i + w i .used) (w i .kind) (a .year) (p i)) ∙
+    sym (parse-gathers (a .line .now) (a .year) (goes (c .before .before .before .before .before .before .before .before .before)) (same (c .before .before .before .before .before)) there)
 
 pub parse-spec : {M : Type 1} → statement M
 parse-spec =
@@ -80,9 +119,16 @@ parse-spec =
     gaps-in-requires
     part-requires
     ends-here-requires
+    no-entry-requires
     returns
-    word-of-requires
+    separator-of-requires
+    part-requires-2
+    other-at-requires
+    no-entry-requires-2
     returns-2
+    word-of-requires
+    no-entry-requires-3
+    returns-3
     add-gather
     gather-requires
-    returns-3)
+    returns-4)
