@@ -1,5 +1,6 @@
 /* book_text read <BOOK >TEXT, book_text write TEXT >BOOK: a book as text in plain C, written from docs/TEXT.md alone: the measure that book_read and
-   book_write are held to. Of any length in constant memory; a text is read twice, and nothing is written of a wrong one. */
+   book_write are held to. Of any length in constant memory; a text is read twice, and nothing is written of a wrong one, of which it tells what was expected
+   and not what stands there. */
 #include <fcntl.h>
 #include <stdint.h>
 #include <stdio.h>

@@ -307,6 +307,11 @@ const char *const text_messages[TEXT_MESSAGES] = {
     [TEXT_OTHER_SEPARATOR] = "expected the line's separator: one of comma, semicolon and tab parts all its cells",
     [TEXT_SEPARATOR] = "expected the line's separator: in a line of cells a space or a bar alone parts nothing; write 1000, not 1 000",
     [TEXT_EMPTY_CELL] = "an empty cell; write 0",
+    [TEXT_MARK] = "a byte-order mark: save the text without one, in a spreadsheet as CSV and not as CSV UTF-8",
+    [TEXT_QUOTED] = "a quotation mark: write words and numbers without any",
+    [TEXT_CAPITALS] = "a word in capital letters: write sheet, simple, stepped or hex in small ones",
+    [TEXT_HEADER] = "a header row: write # before it, and it is a comment",
+    [TEXT_OTHER_TIME] = "a time of another form: write MM-DD hh:mm, as 03-14 01:24, or minutes from 1 January 00:00",
 };
 
 struct line {
@@ -371,21 +376,63 @@ static int read_gap(struct line *line, size_t from, int before_item) {
     return count ? expect(line, second, TEXT_EMPTY_CELL) : expect(line, line->place, TEXT_SEPARATOR);
 }
 
+/* A letter of ASCII, or a byte of another alphabet's. */
+static int is_letter(unsigned byte) { return (byte >= 'A' && byte <= 'Z') || (byte >= 'a' && byte <= 'z') || byte > 127; }
+
+static unsigned small(unsigned byte) { return byte >= 'A' && byte <= 'Z' ? byte + 'a' - 'A' : byte; }
+
+/* Whether a word stands at the line's place, in the small letters that it has or in any. */
+static int is_word(const struct line *line, const char *word, int any_letters) {
+    size_t size = strlen(word);
+    const uint8_t *at = line->at + line->place;
+    if (size > line->size - line->place || !is_item_end(line, line->place + size)) return 0;
+    for (size_t k = 0; k < size; k++)
+        if ((any_letters ? small(at[k]) : at[k]) != (uint8_t)word[k]) return 0;
+    return 1;
+}
+
+/* Whether an item behind the first begins with a letter too, as those of a header row do. */
+static int has_letters(const struct line *line) {
+    for (size_t k = line->place + 1; !is_line_end(line, k); k++)
+        if (text_is_gap(line->at[k - 1]) && is_letter(line->at[k])) return 1;
+    return 0;
+}
+
+/* What stands where a word was expected, if it has a name. */
+static int name_word(const struct line *line) {
+    const uint8_t *at = line->at + line->place;
+    if (line->size - line->place >= 3 && !memcmp(at, "\xef\xbb\xbf", 3)) return TEXT_MARK;
+    if (*at == '"') return TEXT_QUOTED;
+    for (size_t k = 0; k < sizeof sorts / sizeof *sorts; k++)
+        if (is_word(line, sorts[k].word, 1)) return TEXT_CAPITALS;
+    return is_letter(*at) && has_letters(line) ? TEXT_HEADER : TEXT_WORD;
+}
+
+/* And where an item was expected. */
+static int name_item(const struct line *line, int otherwise) {
+    if (line->at[line->place] == '"') return TEXT_QUOTED;
+    return otherwise == TEXT_TIME && is_digit(line, line->place) ? TEXT_OTHER_TIME : otherwise;
+}
+
+/* And behind an item: a time may go on in another form. */
+static int name_gap(const struct line *line, char item) {
+    return item == 't' && memchr("-./:", line->at[line->place], 4) && is_digit(line, line->place + 1) ? TEXT_OTHER_TIME : TEXT_GAP;
+}
+
 static const struct sort *read_word(struct line *line) {
     for (size_t k = 0; k < sizeof sorts / sizeof *sorts; k++) {
-        size_t size = strlen(sorts[k].word);
-        if (size > line->size - line->place || memcmp(line->at + line->place, sorts[k].word, size) || !is_item_end(line, line->place + size)) continue;
-        line->place += size;
+        if (!is_word(line, sorts[k].word, 0)) continue;
+        line->place += strlen(sorts[k].word);
         return &sorts[k];
     }
-    expect(line, line->place, TEXT_WORD);
+    expect(line, line->place, name_word(line));
     return NULL;
 }
 
 static int read_number(struct line *line, uint32_t most, int otherwise, uint32_t *value) {
     size_t first = line->place;
     uint64_t number = 0;
-    if (!is_digit(line, first)) return expect(line, first, otherwise);
+    if (!is_digit(line, first)) return expect(line, first, name_item(line, otherwise));
     for (; is_digit(line, line->place); line->place++)
         if (number <= most) number = 10 * number + (line->at[line->place] - '0');
     if (number > most) return expect(line, first, most == 255 ? TEXT_MOST_255 : most == 65535 ? TEXT_MOST_65535 : TEXT_MOST_4294967295);
@@ -400,7 +447,7 @@ static int read_day(struct line *line, uint32_t *value) {
     const uint8_t *at = line->at + line->place;
     for (size_t k = 0; k < TEXT_DAY_WIDTH; k++)
         if (k >= line->size - line->place || (form[k] == 'd' ? !is_digit(line, line->place + k) : at[k] != form[k]))
-            return expect(line, line->place, TEXT_TIME);
+            return expect(line, line->place, name_item(line, TEXT_TIME));
     unsigned month = two_digits(at), day = two_digits(at + 3), hour = two_digits(at + 6), minute = two_digits(at + 9), days = 0;
     if (!line->year) return expect(line, line->place, TEXT_SHEET);
     if (month < 1 || month > 12 || day < 1 || day > days_of(month, line->year) || hour > 23 || minute > 59) return expect(line, line->place, TEXT_DAY);
@@ -420,7 +467,7 @@ static int read_hex(struct line *line, uint32_t *value) {
     for (size_t k = 0; k < 2; k++) {
         static const char digits[] = "0123456789abcdef0123456789ABCDEF";
         const char *digit = k < line->size - line->place ? memchr(digits, line->at[line->place + k], sizeof digits - 1) : NULL;
-        if (!digit) return expect(line, line->place, TEXT_TWO_DIGITS);
+        if (!digit) return expect(line, line->place, name_item(line, TEXT_TWO_DIGITS));
         *value = 16 * *value + (uint32_t)(digit - digits) % 16;
     }
     line->place += 2;
@@ -434,7 +481,7 @@ static int read_item(struct line *line, char item, text_bytes *fields) {
                 : item == 't' ? read_time(line, &value)
                               : read_number(line, bytes == 1 ? 255 : bytes == 2 ? 65535 : UINT32_MAX, TEXT_WHOLE_NUMBER, &value);
     if (!right) return 0;
-    if (!is_item_end(line, line->place)) return expect(line, line->place, TEXT_GAP);
+    if (!is_item_end(line, line->place)) return expect(line, line->place, name_gap(line, item));
     for (; bytes > 0; bytes--, value >>= 8) text_add_byte(fields, value & 255);
     return 1;
 }

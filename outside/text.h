@@ -65,6 +65,11 @@ enum {
     TEXT_OTHER_SEPARATOR,
     TEXT_SEPARATOR,
     TEXT_EMPTY_CELL,
+    TEXT_MARK,
+    TEXT_QUOTED,
+    TEXT_CAPITALS,
+    TEXT_HEADER,
+    TEXT_OTHER_TIME,
     TEXT_MESSAGES
 };
 extern const char *const text_messages[TEXT_MESSAGES];

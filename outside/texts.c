@@ -578,11 +578,26 @@ static void wrong_texts(void) {
         size_t line, column;
         int wrong;
     } wrong[] = {
-        {"a large letter", "Sheet 2009 1 1 1\n", 1, 1, TEXT_WORD},
+        {"a large letter", "Sheet 2009 1 1 1\n", 1, 1, TEXT_CAPITALS},
+        {"large letters", " HEX FF\n", 1, 2, TEXT_CAPITALS},
+        {"a word too long in large letters", "SHEETS 2009 1 1 1\n", 1, 1, TEXT_WORD},
         {"a word too long", "sheets 2009 1 1 1\n", 1, 1, TEXT_WORD},
         {"a word too short", "\n  step", 2, 3, TEXT_WORD},
         {"a word and a colon", "sheet: 2009 1 1 1\n", 1, 1, TEXT_WORD},
-        {"a byte-order mark", "\xef\xbb\xbfsheet 2009 1 1 1\n", 1, 1, TEXT_WORD},
+        {"a byte-order mark", "\xef\xbb\xbfsheet 2009 1 1 1\n", 1, 1, TEXT_MARK},
+        {"a byte-order mark before a comment", "\xef\xbb\xbf# a book\n", 1, 1, TEXT_MARK},
+        {"two bytes of a byte-order mark", "\xef\xbb", 1, 1, TEXT_WORD},
+        {"a quoted word", "\"sheet\";2009;1;1;1\n", 1, 1, TEXT_QUOTED},
+        {"a quoted number", "sheet;\"2009\";1;1;1\n", 1, 7, TEXT_QUOTED},
+        {"a quoted time", "stepped;1;1;1;1;\"100\"\n", 1, 17, TEXT_QUOTED},
+        {"a quotation mark before a dash", "stepped;1;1;1;1;\"1-1\"\n", 1, 17, TEXT_QUOTED},
+        {"a quoted byte", "hex \"00\"\n", 1, 5, TEXT_QUOTED},
+        {"a quotation mark behind a number", "sheet 2009\" 1 1 1\n", 1, 11, TEXT_GAP},
+        {"a header row", "word;number;type;T0\n", 1, 1, TEXT_HEADER},
+        {"a header row of another alphabet", "\xd0\xb2\xd0\xb8\xd0\xb4;7;\xd0\xb4\n", 1, 1, TEXT_HEADER},
+        {"a word, and letters in a comment", "outage 1 2 #b c\n", 1, 1, TEXT_WORD},
+        {"a word, and letters within items", "outage 1a 2b\n", 1, 1, TEXT_WORD},
+        {"a word behind a number", "7 words\n", 1, 1, TEXT_WORD},
         {"a number for a word", "sheet 2009 1 1 1\n\r\n# a\n 7 1 1 1\n", 4, 2, TEXT_WORD},
         {"a word alone", "sheet", 1, 6, TEXT_MORE},
         {"a word and a comment", "hex#00\n", 1, 4, TEXT_MORE},
@@ -608,14 +623,20 @@ static void wrong_texts(void) {
         {"a count of 39 digits", "sheet 2009 340282366920938463463374607431768211457 1 1\n", 1, 12, TEXT_MOST_4294967295},
         {"minutes too many", "stepped 1 1 1 1 4294967296\n", 1, 17, TEXT_MOST_4294967295},
         {"a letter for a time", "stepped 1 1 1 1 a\n", 1, 17, TEXT_TIME},
-        {"a day alone", "sheet 2009 1 1 1\nstepped 1 1 1 1 01-01\n", 2, 17, TEXT_TIME},
-        {"a tab after a day", "sheet 2009 1 1 1\nstepped\t1\t1\t1\t1\t01-01\t00:00\t1\t1\t1\t1\n", 2, 17, TEXT_TIME},
-        {"two spaces after a day", "sheet 2009 1 1 1\nstepped 1 1 1 1 01-01  00:00 1 1 1 1\n", 2, 17, TEXT_TIME},
-        {"an hour of one digit", "sheet 2009 1 1 1\nstepped 1 1 1 1 01-01 0:00 1 1 1 1\n", 2, 17, TEXT_TIME},
-        {"a minute of one digit", "sheet 2009 1 1 1\nstepped 1 1 1 1 01-01 00:0", 2, 17, TEXT_TIME},
-        {"a month of one digit", "sheet 2009 1 1 1\nstepped 1 1 1 1 1-01 00:00 1 1 1 1\n", 2, 18, TEXT_GAP},
-        {"a year before the month", "sheet 2009 1 1 1\nstepped 1 1 1 1 2009-01-01 00:00 1 1 1 1\n", 2, 21, TEXT_GAP},
-        {"seconds", "sheet 2009 1 1 1\nstepped 1 1 1 1 01-01 00:00:00 1 1 1 1\n", 2, 28, TEXT_GAP},
+        {"a day alone", "sheet 2009 1 1 1\nstepped 1 1 1 1 01-01\n", 2, 17, TEXT_OTHER_TIME},
+        {"a tab after a day", "sheet 2009 1 1 1\nstepped\t1\t1\t1\t1\t01-01\t00:00\t1\t1\t1\t1\n", 2, 17, TEXT_OTHER_TIME},
+        {"two spaces after a day", "sheet 2009 1 1 1\nstepped 1 1 1 1 01-01  00:00 1 1 1 1\n", 2, 17, TEXT_OTHER_TIME},
+        {"an hour of one digit", "sheet 2009 1 1 1\nstepped 1 1 1 1 01-01 0:00 1 1 1 1\n", 2, 17, TEXT_OTHER_TIME},
+        {"a minute of one digit", "sheet 2009 1 1 1\nstepped 1 1 1 1 01-01 00:0", 2, 17, TEXT_OTHER_TIME},
+        {"a month of one digit", "sheet 2009 1 1 1\nstepped 1 1 1 1 1-01 00:00 1 1 1 1\n", 2, 18, TEXT_OTHER_TIME},
+        {"a year before the month", "sheet 2009 1 1 1\nstepped 1 1 1 1 2009-01-01 00:00 1 1 1 1\n", 2, 21, TEXT_OTHER_TIME},
+        {"seconds", "sheet 2009 1 1 1\nstepped 1 1 1 1 01-01 00:00:00 1 1 1 1\n", 2, 28, TEXT_OTHER_TIME},
+        {"a day with points", "stepped;1;1;1;1;14.3.2009 1:24\n", 1, 19, TEXT_OTHER_TIME},
+        {"a day with strokes", "stepped;1;1;1;1;3/14/2009 1:24\n", 1, 18, TEXT_OTHER_TIME},
+        {"an hour alone", "simple 1 1 1 1 0 1:24\n", 1, 19, TEXT_OTHER_TIME},
+        {"a later time of another form", "sheet 2009 1 1 1\nstepped 1 1 1 1 01-01 00:00 01-01 00:10 1 1 1 3-14 1:24\n", 2, 48, TEXT_OTHER_TIME},
+        {"a day in a number's place", "sheet 2009 03-14 01:24 1\n", 1, 14, TEXT_GAP},
+        {"a point behind a time", "stepped 1 1 1 1 100.\n", 1, 20, TEXT_GAP},
         {"a day before the sheet", "stepped 1 1 1 1 01-01 00:00 1 1 1 1\nsheet 2009 1 1 1\n", 1, 17, TEXT_SHEET},
         {"a day that is none, before the sheet", "stepped 1 1 1 1 99-99 99:99 1 1 1 1\nsheet 2009 1 1 1\n", 1, 17, TEXT_SHEET},
         {"a day after a sheet of 1999", "sheet 1999 1 1 1\nstepped 1 1 1 1 01-01 00:00 1 1 1 1\n", 2, 17, TEXT_SHEET},
@@ -710,7 +731,7 @@ static void long_lines(void) {
         line_of("Sheet ", '7', TEXT_LONGEST + over, later, newline);
         expect_wrong("a wrong line that is too long", later ? 3 : 1, TEXT_LONGEST + 1, TEXT_SHORTER_LINE);
         line_of("Sheet ", '7', TEXT_LONGEST, later, newline);
-        expect_wrong("a wrong line as long as it may be", later ? 3 : 1, 1, TEXT_WORD);
+        expect_wrong("a wrong line as long as it may be", later ? 3 : 1, 1, TEXT_CAPITALS);
         line_of("sheet ", '0', TEXT_LONGEST, later, newline);
         expect_wrong("a number as long as it may be", later ? 3 : 1, TEXT_LONGEST + 1, TEXT_MORE);
         add_sheet(2009, 1, 2, 3);
@@ -799,7 +820,7 @@ static void another_item(void) {
         "36893488147419103232", "340282366920938463463374607431768211463", "00000000000000000000000000000000000000012", "-1", "+1", "1.0", "1e3", "0x10",
         "1 000", "1'000", "\xef\xbc\x91", "\"1\"", "x", "-", "--", ":", "1-", "12-", "12-12", "1#", "#", "1#-", "a#-", "0a", "FF", "fF", "0g", "g0", "000",
         "/0", ":0", "@a", "`a", "0`", "sheet", "simple", "stepped", "hex", "Sheet", "SIMPLE", "sheets", "stepped2", "hexa", "shee", "hex:", "sheet#", "hex,00",
-        "\nhex 00\n", "\n", "\r\n"};
+        "\nhex 00\n", "\n", "\r\n", "\nword,number,T0\n", "\n\xef\xbb\xbf", "\"sheet\"", "HEX", "sTepped"};
     const char *item = items[below(sizeof items / sizeof *items)];
     size_t place, size = some_item(&place);
     text_replace(text, place, size, item, strlen(item));
@@ -821,7 +842,7 @@ static void another_day(void) {
     static const char *const forms[] = {
         "%u-%u %u:%u",         "%02u-%02u\t%02u:%02u", "%02u-%02u  %02u:%02u", "%02u-%02u,%02u:%02u", "%02u-%02uT%02u:%02u",    "%02u-%02u\n%02u:%02u",
         "%02u/%02u %02u:%02u", "%02u-%02u %02u.%02u",  "%02u-%02u %02u%02u",   "%02u-%02u %02u:%02u#", "%02u-%02u %02u:%02u:00", "2009-%02u-%02u %02u:%02u",
-        "%03u-%02u %02u:%02u", "%02u-%03u %02u:%02u",
+        "%03u-%02u %02u:%02u", "%02u-%03u %02u:%02u",  "%u.%u.2009 %u:%u",     "%u/%u/2009 %u:%u",    "\"%02u-%02u %02u:%02u\"",
     };
     char day[64];
     size_t place, size = some_day(&place);

@@ -83,6 +83,41 @@ fn tell_cell(answer: u8) {
     }
 }
 
+// What stands in a line where another thing was expected, and what to write.
+fn tell_likeness(likeness: u8) {
+    if likeness == likeness::BYTE_ORDER_MARK {
+        tell(
+            b"a byte-order mark: save the text without one, in a spreadsheet as CSV and not as CSV UTF-8",
+        );
+    }
+    if likeness == likeness::QUOTED {
+        tell(b"a quotation mark: write words and numbers without any");
+    }
+    if likeness == likeness::CAPITALS {
+        tell(b"a word in capital letters: write sheet, simple, stepped or hex in small ones");
+    }
+    if likeness == likeness::HEADER {
+        tell(b"a header row: write # before it, and it is a comment");
+    }
+    if likeness == likeness::OTHER_TIME {
+        tell(
+            b"a time of another form: write MM-DD hh:mm, as 03-14 01:24, or minutes from 1 January 00:00",
+        );
+    }
+}
+
+// What is wrong at a place of a line: what stands there where it has a name, and else what was expected.
+fn tell_wrong(text: &[u8], at: usize, answer: u8, year: u16) {
+    let likeness = likeness::likeness_of(text, at, answer, year);
+    if likeness != 0 {
+        tell_likeness(likeness);
+        return;
+    }
+    tell_number(answer);
+    tell_place(answer);
+    tell_cell(answer);
+}
+
 // The place in the text: its name, the line and the column, each from 1.
 fn tell_where(name: &[u8], line: u64, column: u64) {
     tell(name);
@@ -169,9 +204,7 @@ fn take_line(
     let parsed = entry::parse(text, told.year);
     if parsed.answer != 0 {
         tell_where(name, line, next(parsed.at as u64));
-        tell_number(parsed.answer);
-        tell_place(parsed.answer);
-        tell_cell(parsed.answer);
+        tell_wrong(text, parsed.at, parsed.answer, told.year);
         tell(b"\n");
         return Told {
             year: told.year,

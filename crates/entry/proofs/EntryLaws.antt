@@ -216,6 +216,29 @@ values-few (suc n) s kind k year sep = go (values-few n (drop (nextCell s kind k
     go h (holds e) = subst⁻¹ (λ (l : List ℕ). length l ≤ suc n) (one-left n s kind k year sep e) (omega arith)
     go h (fails e) = subst⁻¹ (λ (l : List ℕ). length l ≤ suc n) (none-left n s kind k year sep e) (omega arith)
 
+-- how many items are read from a place on, by the item there: it is the last that is looked for, or it is not there, or it is one more
+module _ (line : List ℕ) (at kind k year sep : ℕ) (f : Found) (is : f ≡ nextCell (drop at line) kind k year sep) where
+  abbrev readFrom : ℕ → ℕ → ℕ → ℕ
+  readFrom n place items = length (valuesFrom n (drop place line) kind items year sep)
+
+  found-is : (t : Bool) → eqb (f .answer) 0 ≡ t → eqb (nextCell (drop at line) kind k year sep .answer) 0 ≡ t
+  found-is t e = sym (ap (λ (r : Found). eqb (r .answer) 0) is) ∙ e
+
+  pub read-ends : (n : ℕ) → eqb (f .answer) 0 ≡ false → k + readFrom (suc n) at k ≡ k
+  read-ends n e = let none = ap length (none-left n (drop at line) kind k year sep (found-is false e)) in omega arith
+
+  pub read-more : (n : ℕ) → eqb (f .answer) 0 ≡ true → k + readFrom (suc n) at k ≡ k + 1 + readFrom n (at + f .used) (k + 1)
+  read-more n e =
+      let one = ap length (one-left n (drop at line) kind k year sep (found-is true e)) in
+      let u : ℕ = nextCell (drop at line) kind k year sep .used in
+      let past : drop u (drop at line) ≡ drop (at + f .used) line = drop-drop u at line ∙ sym (ap (λ (r : Found). drop (at + r .used) line) is) in
+      let rest = ap (λ (s : List ℕ). length (valuesFrom n s kind (k + 1) year sep)) past in
+      omega arith
+
+pub read-none : (line : List ℕ) (at kind k year sep : ℕ) → k + length (valuesFrom 0 (drop at line) kind k year sep) ≡ k
+unfolding valuesFrom
+read-none line at kind k year sep = omega arith
+
 -- the outcome once the items are read, by its two tests
 module _ (answer at kind count : ℕ) (values : List ℕ) where
   pub ended-other : eqb answer 255 ≡ false → endedBy answer at kind count values ≡ refusedAt answer at

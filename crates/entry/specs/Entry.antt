@@ -108,3 +108,14 @@ parsedOf line year =
     (cond (ltb (otherAt (take (gapsIn line) line) (separatorOf line)) (gapsIn line)) (refusedAt 13 (otherAt (take (gapsIn line) line) (separatorOf line)))
     (cond (eqb (wordOf (drop (gapsIn line) line) .kind) 0) (refusedAt 1 (gapsIn line))
     (gathered line (gapsIn line + wordOf (drop (gapsIn line) line) .used) (wordOf (drop (gapsIn line) line) .kind) year (separatorOf line))))
+
+-- how many items of a line are read, from a place on
+unfoldable pub itemsRead : List ℕ → ℕ → ℕ → ℕ → ℕ → ℕ
+itemsRead line start kind year sep = length (valuesFrom 261 (drop start line) kind 0 year sep)
+
+-- the sort of the item past those that are read: where a line is refused at an item, the sort of that item
+unfoldable pub itemRefused : List ℕ → ℕ → ℕ
+itemRefused line year =
+    itemOf
+    (wordOf (drop (gapsIn line) line) .kind)
+    (itemsRead line (gapsIn line + wordOf (drop (gapsIn line) line) .used) (wordOf (drop (gapsIn line) line) .kind) year (separatorOf line))

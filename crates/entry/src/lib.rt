@@ -1,6 +1,6 @@
 // A line of text read as an entry: its word, then its items, each parted from the next.
 ghost use mathlib.Core.Path.{_≡_};
-ghost use Rattle.entry.specs.Entry.{beginsWith, wordOf, nextField, itemDue, nextCell, refusedAt, gathered, parsedOf};
+ghost use Rattle.entry.specs.Entry.{beginsWith, wordOf, nextField, itemDue, nextCell, refusedAt, gathered, parsedOf, itemsRead, itemRefused};
 use scan::Found;
 use shape::Entry;
 
@@ -239,4 +239,32 @@ pub fn parse(line: &[u8], year: u16) -> Parsed
         return no_entry(scan::WORD, skipped);
     }
     gather(line, skipped + word.used, word.kind, year, sep)
+}
+
+// How many items of a line of a sort are read, from a place on.
+fn items_read(line: &[u8], start: usize, kind: u8, year: u16, sep: u8) -> usize
+    ensures { λ r. ⌜ r ≡ itemsRead (now (line .entry)) start kind year sep ⌝ }
+{
+    let mut at = start;
+    let mut k: usize = 0;
+    while k < 261 {
+        let f = next_cell(wire::part(line, at, line.len()), kind, k, year, sep);
+        if f.answer != 0 {
+            return k;
+        }
+        at += f.used;
+        k += 1;
+    }
+    k
+}
+
+// The sort of the item past those of a line that are read: where the line is refused at an item, the sort of that item.
+pub fn item_refused(line: &[u8], year: u16) -> u8
+    ensures { λ r. ⌜ r ≡ itemRefused (now (line .entry)) year ⌝ }
+{
+    let skipped = scan::gaps_in(line);
+    let word = word_of(wire::part(line, skipped, line.len()));
+    let sep = scan::separator_of(line);
+    let read = items_read(line, skipped + word.used, word.kind, year, sep);
+    shape::item_of(word.kind, read)
 }

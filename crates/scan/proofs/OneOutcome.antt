@@ -1,6 +1,10 @@
 -- No second outcome meets what a public function of this crate promises. Assumes nothing.
 use mathlib.Core.Path.{refl}
 use Rattle.base.proofs.OneOutcome.{OneOutcome, alike}
+use Rattle.scan.proofs.is_gap.Kinds as is-gap-kinds
+use Rattle.scan.proofs.is_gap.Reads as is-gap
+use Rattle.scan.proofs.is_digit.Kinds as is-digit-kinds
+use Rattle.scan.proofs.is_digit.Reads as is-digit
 use Rattle.scan.proofs.gaps_in.Kinds as gaps-in-kinds
 use Rattle.scan.proofs.gaps_in.Reads as gaps-in
 use Rattle.scan.proofs.ends_here.Kinds as ends-here-kinds
@@ -15,6 +19,12 @@ use Rattle.scan.proofs.gap_said.Kinds as gap-said-kinds
 use Rattle.scan.proofs.gap_said.Reads as gap-said
 use Rattle.scan.proofs.item_found.Kinds as item-found-kinds
 use Rattle.scan.proofs.item_found.Reads as item-found
+
+pub is-gap-one : OneOutcome is-gap-kinds.ps is-gap-kinds.r is-gap.Post
+is-gap-one κs a x y v w p q = (alike p q, refl)
+
+pub is-digit-one : OneOutcome is-digit-kinds.ps is-digit-kinds.r is-digit.Post
+is-digit-one κs a x y v w p q = (alike p q, refl)
 
 pub gaps-in-one : OneOutcome gaps-in-kinds.ps gaps-in-kinds.r gaps-in.Post
 gaps-in-one κs a x y v w p q = (alike p q, refl)

@@ -52,7 +52,7 @@ pub struct Run {
 }
 
 // Whether a byte parts items: a space, a tab, a comma, a semicolon, a bar or a carriage return.
-fn is_gap(b: u8) -> bool
+pub fn is_gap(b: u8) -> bool
     ensures { λ r. ⌜ r ≡ isGap b ⌝ }
 {
     if b == 32 {
@@ -214,7 +214,8 @@ pub fn gap_said(gap: &[u8], sep: u8, due: bool) -> Found
 
 // ---- numbers
 
-fn is_digit(b: u8) -> bool
+// Whether a byte is a decimal digit.
+pub fn is_digit(b: u8) -> bool
     ensures { λ r. ⌜ r ≡ Rattle.scan.specs.Scan.isDigit b ⌝ }
 {
     if b < 48 {

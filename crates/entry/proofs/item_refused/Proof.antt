@@ -1,0 +1,61 @@
+-- The word's sort, and the items that are read behind the word, name the item. Assumes nothing.
+use Prim.Native.Nat.{ℕ, _+_}
+use mathlib.Core.Path.{_≡_, sym, ap, _∙_}
+use lib.ListN.{drop}
+use native.Mathlib.Omega.{arith}
+use borrow.Author.Needs.{needs}
+use Rattle.shape.specs.Shape.{itemOf}
+use Rattle.scan.specs.Scan.{gapsIn}
+use Rattle.scan.proofs.ScanLaws.{part-is-rest, gaps-short}
+use Rattle.entry.specs.declared.Word.{Word}
+use Rattle.entry.specs.Entry.{wordOf, itemsRead, itemRefused}
+use Rattle.entry.proofs.EntryLaws.{word-short}
+use Rattle.entry.proofs.item_refused.Statement.{statement}
+use Rattle.entry.proofs.item_refused.Tie as tie
+
+-- the word in front, of the line itself
+word : (c : tie.After-word-of) → c .word-of .result ≡ wordOf (drop (gapsIn (c .before .before .before .before .args .line .now)) (c .before .before .before .before .args .line .now))
+word c =
+    let s = c .before .before .before .before .args .line .now in
+    let g = c .before .before .gaps-in in
+    c .word-of .ensures ∙ ap wordOf (c .before .part .ensures ∙ part-is-rest s (g .result) ∙ ap (λ (n : ℕ). drop n s) (g .ensures))
+
+gaps-in-requires : tie.Need-gaps-in-requires
+gaps-in-requires c κs = search needs
+
+part-requires : tie.Need-part-requires
+part-requires c κs = search needs
+
+word-of-requires : tie.Need-word-of-requires
+word-of-requires c κs = search needs
+
+separator-of-requires : tie.Need-separator-of-requires
+separator-of-requires c κs = search needs
+
+add-items-read : tie.Need-add-items-read
+add-items-read c =
+    let s = c .before .before .before .before .before .before .args .line .now in
+    let w : c .before .before .word-of .result .used ≡ wordOf (drop (gapsIn s) s) .used = ap (λ (r : Word). r .used) (word (c .before .before)) in
+    let g : c .before .before .before .before .gaps-in .result ≡ gapsIn s = c .before .before .before .before .gaps-in .ensures in
+    omega (arith, gaps-short s, word-short (drop (gapsIn s) s))
+
+items-read-requires : tie.Need-items-read-requires
+items-read-requires c κs = search needs
+
+item-of-requires : tie.Need-item-of-requires
+item-of-requires c κs = search needs
+
+returns : tie.Need-returns
+unfolding itemRefused
+returns c =
+    let a = c .before .before .before .before .before .before .before .before .args in
+    let w = word (c .before .before .before .before) in
+    let g = c .before .before .before .before .before .before .gaps-in .ensures in
+    let p = c .before .before .before .separator-of .ensures in
+    c .item-of .ensures ∙ ap (itemOf (c .before .before .before .before .word-of .result .kind)) (c .before .items-read .ensures) ∙
+    (λ i. itemOf (w i .kind) (itemsRead (a .line .now) (g i + w i .used) (w i .kind) (a .year) (p i)))
+
+pub item-refused-spec : {M : Type 1} → statement M
+item-refused-spec =
+    tie.close
+    (tie.spec gaps-in-requires part-requires word-of-requires separator-of-requires add-items-read items-read-requires item-of-requires returns)

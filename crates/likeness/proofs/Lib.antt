@@ -1,0 +1,2 @@
+pub mod LikenessLaws
+pub mod OneOutcome
