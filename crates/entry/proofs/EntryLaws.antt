@@ -160,31 +160,42 @@ module _ (s : List ℕ) (kind k year : ℕ) where
       go (fails e) (holds m) = subst⁻¹ (λ (r : Found). r .used ≤ length s) (next-over e m) (gaps-short s)
       go (fails e) (fails m) = subst⁻¹ (λ (r : Found). r .used ≤ length s) (next-item e m) (item-within s (gapsIn s) itemHere (length s) (gaps-short s) item-fits)
 
--- the next item of a line with a separator, by its tests
+-- the gap in front of an item, by its test
+module _ (s : List ℕ) (kind k sep : ℕ) where
+  pub gap-plain : eqb sep 0 ≡ true → gapBefore s kind k sep ≡ saidAt 0 0
+  unfolding gapBefore
+  gap-plain e = chosen _ _ (eqb sep 0) e
+
+  pub gap-cells : eqb sep 0 ≡ false → gapBefore s kind k sep ≡ gapSaid (take (gapsIn s) s) sep (itemDue (drop (gapsIn s) s) kind k)
+  unfolding gapBefore
+  gap-cells e = passed-over _ _ (eqb sep 0) e
+
+  gap-short : gapBefore s kind k sep .used ≤ length s
+  gap-short = go (test (eqb sep 0))
+    where
+      go : Tested (eqb sep 0) → gapBefore s kind k sep .used ≤ length s
+      go (holds e) = subst⁻¹ (λ (r : Found). r .used ≤ length s) (gap-plain e) (omega arith)
+      go (fails e) =
+          subst⁻¹ (λ (r : Found). r .used ≤ length s) (gap-cells e)
+          (omega (arith, said-short (take (gapsIn s) s) sep (itemDue (drop (gapsIn s) s) kind k), length-take (gapsIn s) s, gaps-short s))
+
+-- the next item of a line with a separator, by its test
 module _ (s : List ℕ) (kind k year sep : ℕ) where
-  pub cell-plain : eqb sep 0 ≡ true → nextCell s kind k year sep ≡ nextField s kind k year
+  pub cell-right : eqb (gapBefore s kind k sep .answer) 0 ≡ true → nextCell s kind k year sep ≡ nextField s kind k year
   unfolding nextCell
-  cell-plain e = chosen _ _ (eqb sep 0) e
+  cell-right e = chosen _ _ (eqb (gapBefore s kind k sep .answer) 0) e
 
-  module _ (cells : eqb sep 0 ≡ false) where
-    pub cell-right : eqb (gapBefore s kind k sep .answer) 0 ≡ true → nextCell s kind k year sep ≡ nextField s kind k year
-    unfolding nextCell
-    cell-right e = passed-over _ _ (eqb sep 0) cells ∙ chosen _ _ (eqb (gapBefore s kind k sep .answer) 0) e
-
-    pub cell-wrong : eqb (gapBefore s kind k sep .answer) 0 ≡ false → nextCell s kind k year sep ≡ gapBefore s kind k sep
-    unfolding nextCell
-    cell-wrong e = passed-over _ _ (eqb sep 0) cells ∙ passed-over _ _ (eqb (gapBefore s kind k sep .answer) 0) e
+  pub cell-wrong : eqb (gapBefore s kind k sep .answer) 0 ≡ false → nextCell s kind k year sep ≡ gapBefore s kind k sep
+  unfolding nextCell
+  cell-wrong e = passed-over _ _ (eqb (gapBefore s kind k sep .answer) 0) e
 
   -- it is within the line too
   pub cell-short : nextCell s kind k year sep .used ≤ length s
-  cell-short = go (test (eqb sep 0)) (test (eqb (gapBefore s kind k sep .answer) 0))
+  cell-short = go (test (eqb (gapBefore s kind k sep .answer) 0))
     where
-      go : Tested (eqb sep 0) → Tested (eqb (gapBefore s kind k sep .answer) 0) → nextCell s kind k year sep .used ≤ length s
-      go (holds e) g = subst⁻¹ (λ (r : Found). r .used ≤ length s) (cell-plain e) (next-short s kind k year)
-      go (fails e) (holds g) = subst⁻¹ (λ (r : Found). r .used ≤ length s) (cell-right e g) (next-short s kind k year)
-      go (fails e) (fails g) =
-          subst⁻¹ (λ (r : Found). r .used ≤ length s) (cell-wrong e g)
-          (omega (arith, said-short (take (gapsIn s) s) sep (itemDue (drop (gapsIn s) s) kind k), length-take (gapsIn s) s, gaps-short s))
+      go : Tested (eqb (gapBefore s kind k sep .answer) 0) → nextCell s kind k year sep .used ≤ length s
+      go (holds g) = subst⁻¹ (λ (r : Found). r .used ≤ length s) (cell-right g) (next-short s kind k year)
+      go (fails g) = subst⁻¹ (λ (r : Found). r .used ≤ length s) (cell-wrong g) (gap-short s kind k sep)
 
 -- the numbers from the k-th item on, and what is said past them, by the k-th
 module _ (n : ℕ) (s : List ℕ) (kind k year sep : ℕ) where

@@ -55,15 +55,13 @@ nextField s kind k year =
 unfoldable pub itemDue : List ℕ → ℕ → ℕ → Bool
 itemDue s kind k = not (endsHere s) && ltb k (mostOf kind)
 
--- the gap in front of the k-th item, in a line of cells
-abbrev pub gapBefore : List ℕ → ℕ → ℕ → ℕ → Found
-gapBefore s kind k sep = gapSaid (take (gapsIn s) s) sep (itemDue (drop (gapsIn s) s) kind k)
+-- the gap in front of the k-th item of a line with a separator; 0: no line of cells, where every gap is right
+unfoldable pub gapBefore : List ℕ → ℕ → ℕ → ℕ → Found
+gapBefore s kind k sep = cond (eqb sep 0) (saidAt 0 0) (gapSaid (take (gapsIn s) s) sep (itemDue (drop (gapsIn s) s) kind k))
 
--- the k-th item of a line with a separator, where the gap in front of it is as such a line asks; separator 0: no line of cells
+-- the k-th item of such a line, where the gap in front of it is right
 unfoldable pub nextCell : List ℕ → ℕ → ℕ → ℕ → ℕ → Found
-nextCell s kind k year sep =
-    cond (eqb sep 0) (nextField s kind k year)
-    (cond (eqb (gapBefore s kind k sep .answer) 0) (nextField s kind k year) (gapBefore s kind k sep))
+nextCell s kind k year sep = cond (eqb (gapBefore s kind k sep .answer) 0) (nextField s kind k year) (gapBefore s kind k sep)
 
 -- the numbers of the items from the k-th on, up to one that is not there, and what is said there
 unfoldable pub valuesFrom : ℕ → List ℕ → ℕ → ℕ → ℕ → ℕ → List ℕ

@@ -1,6 +1,6 @@
 // A line of text read as an entry: its word, then its items, each parted from the next.
 ghost use mathlib.Core.Path.{_≡_};
-ghost use Rattle.entry.specs.Entry.{beginsWith, wordOf, nextField, itemDue, nextCell, refusedAt, gathered, parsedOf, itemsRead, itemRefused};
+ghost use Rattle.entry.specs.Entry.{beginsWith, wordOf, nextField, itemDue, gapBefore, nextCell, refusedAt, gathered, parsedOf, itemsRead, itemRefused};
 use scan::Found;
 use shape::Entry;
 
@@ -132,16 +132,27 @@ fn item_due(s: &[u8], kind: u8, k: usize) -> bool
     k < shape::most_of(kind)
 }
 
-// The k-th item of a line, past the gap in front; in a line of cells, where that gap is as such a line asks. The separator is 0 in any other.
-fn next_cell(s: &[u8], kind: u8, k: usize, year: u16, sep: u8) -> Found
-    ensures { λ r. ⌜ r ≡ nextCell (now (s .entry)) kind k year sep ⌝ }
+// What is said of the gap in front of the k-th item: in a line of cells it is as such a line asks. The separator is 0 in any other, where every gap is right.
+fn gap_before(s: &[u8], kind: u8, k: usize, sep: u8) -> Found
+    ensures { λ r. ⌜ r ≡ gapBefore (now (s .entry)) kind k sep ⌝ }
 {
     if sep == 0 {
-        return next_field(s, kind, k, year);
+        return Found {
+            answer: 0,
+            value: 0,
+            used: 0,
+        };
     }
     let skipped = scan::gaps_in(s);
     let due = item_due(wire::part(s, skipped, s.len()), kind, k);
-    let said = scan::gap_said(wire::part(s, 0, skipped), sep, due);
+    scan::gap_said(wire::part(s, 0, skipped), sep, due)
+}
+
+// The k-th item of a line, where the gap in front of it is right.
+fn next_cell(s: &[u8], kind: u8, k: usize, year: u16, sep: u8) -> Found
+    ensures { λ r. ⌜ r ≡ nextCell (now (s .entry)) kind k year sep ⌝ }
+{
+    let said = gap_before(s, kind, k, sep);
     if said.answer != 0 {
         return said;
     }
@@ -246,16 +257,16 @@ fn items_read(line: &[u8], start: usize, kind: u8, year: u16, sep: u8) -> usize
     ensures { λ r. ⌜ r ≡ itemsRead (now (line .entry)) start kind year sep ⌝ }
 {
     let mut at = start;
-    let mut k: usize = 0;
-    while k < 261 {
-        let f = next_cell(wire::part(line, at, line.len()), kind, k, year, sep);
+    let mut read: usize = 0;
+    while read < 261 {
+        let f = next_cell(wire::part(line, at, line.len()), kind, read, year, sep);
         if f.answer != 0 {
-            return k;
+            return read;
         }
         at += f.used;
-        k += 1;
+        read += 1;
     }
-    k
+    read
 }
 
 // The sort of the item past those of a line that are read: where the line is refused at an item, the sort of that item.

@@ -14,7 +14,7 @@ use Rattle.wire.specs.Numbers.{byteAt}
 use Rattle.shape.specs.Shape.{itemOf, mostOf, wholeOf, barBefore, entryOf, limitOf, withinFrom}
 use Rattle.scan.specs.Scan.{isGap, saidAt, gapsIn, endsHere, partedHere, separatorOf}
 use Rattle.entry.specs.declared.Parsed.{Parsed}
-use Rattle.entry.specs.Entry.{isWord, wordText, wordAs, wordOf, partedItem, nextField, nextCell, valuesFrom, endFrom, endedBy, gathered, parsedOf}
+use Rattle.entry.specs.Entry.{isWord, wordText, wordAs, wordOf, partedItem, nextField, gapBefore, nextCell, valuesFrom, endFrom, endedBy, gathered, parsedOf}
 use Rattle.line.specs.Line.{itemText, gapText, itemsText, lineText}
 use Rattle.mirror.proofs.Written.{line-celless}
 use Rattle.mirror.proofs.ItemBack.{item-front, item-begins, item-back}
@@ -84,7 +84,7 @@ field-passed kind k year v rest =
 
 -- nothing is left: the line has ended
 pub nothing-left : (kind k year : ℕ) → nextCell [] kind k year 0 ≡ saidAt 255 0
-unfolding nextCell nextField
+unfolding nextCell gapBefore nextField
 nothing-left kind k year = refl
 
 -- a word stands in front where it is written, and is found
@@ -139,7 +139,7 @@ pub field-back :
     (byteAt rest 1 ≡ 45 → ⊥) →
     nextCell (gapText kind k ++ (itemText (itemOf kind k) year v ++ rest)) kind k year 0
     ≡ record { answer = 0; value = v; used = length (gapText kind k) + length (itemText (itemOf kind k) year v) }
-unfolding nextCell nextField partedItem
+unfolding nextCell gapBefore nextField partedItem
 field-back kind k year v rest room within p q =
     let begins = item-begins (itemOf kind k) year v rest in
     rw (

@@ -13,20 +13,20 @@ use Rattle.entry.proofs.items_read.Statement.{statement}
 use Rattle.entry.proofs.items_read.Tie as tie
 
 abbrev Inv-loop : tie.InvT-loop
-Inv-loop line start kind year sep at₀ k₀ at k =
-    (k ≤ 261) × (at < 18446744073709551616) × (itemsRead line start kind year sep ≡ k + length (valuesFrom (261 - k) (drop at line) kind k year sep))
+Inv-loop line start kind year sep at₀ read₀ at read =
+    (read ≤ 261) × (at < 18446744073709551616) × (itemsRead line start kind year sep ≡ read + length (valuesFrom (261 - read) (drop at line) kind read year sep))
 
 abbrev μ-loop : tie.MeasureT-loop
-μ-loop line start kind year sep at₀ k₀ at k = 261 - k
+μ-loop line start kind year sep at₀ read₀ at read = 261 - read
 
 -- what `next_cell` answers, of the line itself
 field :
     (c : tie.After-next-cell Inv-loop μ-loop) →
-    c .next-cell .result ≡ nextCell (drop (c .before .before .before .loop .at) (c .before .before .before .before .before .args .line .now)) (c .before .before .before .before .before .args .kind) (c .before .before .before .loop .k) (c .before .before .before .before .before .args .year) (c .before .before .before .before .before .args .sep)
+    c .next-cell .result ≡ nextCell (drop (c .before .before .before .loop .at) (c .before .before .before .before .before .args .line .now)) (c .before .before .before .before .before .args .kind) (c .before .before .before .loop .read) (c .before .before .before .before .before .args .year) (c .before .before .before .before .before .args .sep)
 field c =
     let a = c .before .before .before .before .before .args in
     let l = c .before .before .before .loop in
-    c .next-cell .ensures ∙ ap (λ (s : List ℕ). nextCell s (a .kind) (l .k) (a .year) (a .sep)) (c .before .part .ensures ∙ part-is-rest (a .line .now) (l .at))
+    c .next-cell .ensures ∙ ap (λ (s : List ℕ). nextCell s (a .kind) (l .read) (a .year) (a .sep)) (c .before .part .ensures ∙ part-is-rest (a .line .now) (l .at))
 
 loop-holds : tie.Need-loop-holds Inv-loop μ-loop
 unfolding itemsRead
@@ -43,19 +43,19 @@ returns c =
     let a = c .before .before .before .before .before .before .before .args in
     let l = c .before .before .before .before .before .loop in
     let f = c .before .before .next-cell .result in
-    let fuel : 261 - l .k ≡ suc (261 - (l .k + 1)) = omega (arith, c .before .before .before .before .loop-test .taken) in
+    let fuel : 261 - l .read ≡ suc (261 - (l .read + 1)) = omega (arith, c .before .before .before .before .loop-test .taken) in
     sym
-    (l .inv .2 ∙ ap (λ (n : ℕ). l .k + length (valuesFrom n (drop (l .at) (a .line .now)) (a .kind) (l .k) (a .year) (a .sep))) fuel ∙
-    read-ends (a .line .now) (l .at) (a .kind) (l .k) (a .year) (a .sep) f (field (c .before .before)) (261 - (l .k + 1)) (ne-eqb (f .answer) 0 (c .if1 .taken)))
+    (l .inv .2 ∙ ap (λ (n : ℕ). l .read + length (valuesFrom n (drop (l .at) (a .line .now)) (a .kind) (l .read) (a .year) (a .sep))) fuel ∙
+    read-ends (a .line .now) (l .at) (a .kind) (l .read) (a .year) (a .sep) f (field (c .before .before)) (261 - (l .read + 1)) (ne-eqb (f .answer) 0 (c .if1 .taken)))
 
 add-at : tie.Need-add-at Inv-loop μ-loop
 add-at c =
     let a = c .before .before .before .before .before .before .before .before .args in
     let l = c .before .before .before .before .before .before .loop in
-    omega (arith, going-short (a .line .now) (l .at) (a .kind) (l .k) (a .year) (a .sep) [] (c .before .before .before .next-cell .result) (field (c .before .before .before)), l .inv .1)
+    omega (arith, going-short (a .line .now) (l .at) (a .kind) (l .read) (a .year) (a .sep) [] (c .before .before .before .next-cell .result) (field (c .before .before .before)), l .inv .1)
 
-add-k : tie.Need-add-k Inv-loop μ-loop
-add-k c = search needs
+add-read : tie.Need-add-read Inv-loop μ-loop
+add-read c = search needs
 
 loop-less : tie.Need-loop-less Inv-loop μ-loop
 loop-less c = search needs
@@ -65,21 +65,21 @@ loop-again c =
     let a = c .before .before .before .before .before .before .before .before .args in
     let l = c .before .before .before .before .before .before .loop in
     let f = c .before .before .before .next-cell .result in
-    let fuel : 261 - l .k ≡ suc (261 - (l .k + 1)) = omega (arith, c .before .before .before .before .before .loop-test .taken) in (
+    let fuel : 261 - l .read ≡ suc (261 - (l .read + 1)) = omega (arith, c .before .before .before .before .before .loop-test .taken) in (
       search needs,
-      omega (arith, going-short (a .line .now) (l .at) (a .kind) (l .k) (a .year) (a .sep) [] f (field (c .before .before .before)), l .inv .1),
-      l .inv .2 ∙ ap (λ (n : ℕ). l .k + length (valuesFrom n (drop (l .at) (a .line .now)) (a .kind) (l .k) (a .year) (a .sep))) fuel ∙
-          read-more (a .line .now) (l .at) (a .kind) (l .k) (a .year) (a .sep) f (field (c .before .before .before)) (261 - (l .k + 1)) (eq-eqb (f .answer) 0 (c .before .if1 .left)),
+      omega (arith, going-short (a .line .now) (l .at) (a .kind) (l .read) (a .year) (a .sep) [] f (field (c .before .before .before)), l .inv .1),
+      l .inv .2 ∙ ap (λ (n : ℕ). l .read + length (valuesFrom n (drop (l .at) (a .line .now)) (a .kind) (l .read) (a .year) (a .sep))) fuel ∙
+          read-more (a .line .now) (l .at) (a .kind) (l .read) (a .year) (a .sep) f (field (c .before .before .before)) (261 - (l .read + 1)) (eq-eqb (f .answer) 0 (c .before .if1 .left)),
     )
 
 returns-2 : tie.Need-returns-2 Inv-loop μ-loop
 returns-2 c =
     let a = c .before .before .before .args in
     let l = c .before .loop in
-    let fuel : 261 - l .k ≡ 0 = omega (arith, c .loop-test .left) in
+    let fuel : 261 - l .read ≡ 0 = omega (arith, c .loop-test .left) in
     sym
-    (l .inv .2 ∙ ap (λ (n : ℕ). l .k + length (valuesFrom n (drop (l .at) (a .line .now)) (a .kind) (l .k) (a .year) (a .sep))) fuel ∙
-    read-none (a .line .now) (l .at) (a .kind) (l .k) (a .year) (a .sep))
+    (l .inv .2 ∙ ap (λ (n : ℕ). l .read + length (valuesFrom n (drop (l .at) (a .line .now)) (a .kind) (l .read) (a .year) (a .sep))) fuel ∙
+    read-none (a .line .now) (l .at) (a .kind) (l .read) (a .year) (a .sep))
 
 pub items-read-spec : {M : Type 1} → statement M
 items-read-spec =
@@ -92,7 +92,7 @@ items-read-spec =
     next-cell-requires
     returns
     add-at
-    add-k
+    add-read
     loop-less
     loop-again
     returns-2)

@@ -1,0 +1,57 @@
+-- Where the line has a separator the gap is what stands in front, and what follows it says whether an item is due. Assumes nothing.
+use Prim.Native.Nat.{ℕ}
+use mathlib.Core.Path.{_≡_, sym, ap, _∙_}
+use mathlib.Core.List.{List}
+use lib.ListN.{take, drop}
+use borrow.Author.Needs.{needs}
+use borrow.Author.Tests.{ne-eqb, eq-eqb}
+use Rattle.scan.specs.Scan.{gapsIn, gapSaid}
+use Rattle.scan.proofs.ScanLaws.{part-is-rest, part-is-front}
+use Rattle.entry.specs.Entry.{itemDue}
+use Rattle.entry.proofs.EntryLaws.{gap-plain, gap-cells}
+use Rattle.entry.proofs.gap_before.Statement.{statement}
+use Rattle.entry.proofs.gap_before.Tie as tie
+
+-- what the called functions answer, of the line itself
+due : (c : tie.After-item-due) → c .item-due .result ≡ itemDue (drop (gapsIn (c .before .before .before .before .before .args .s .now)) (c .before .before .before .before .before .args .s .now)) (c .before .before .before .before .before .args .kind) (c .before .before .before .before .before .args .k)
+due c =
+    let a = c .before .before .before .before .before .args in
+    let g = c .before .before .gaps-in in
+    c .item-due .ensures ∙
+    ap (λ (s : List ℕ). itemDue s (a .kind) (a .k)) (c .before .part .ensures ∙ part-is-rest (a .s .now) (g .result) ∙ ap (λ (n : ℕ). drop n (a .s .now)) (g .ensures))
+
+gap : (c : tie.After-part2) → c .part2 .result .now ≡ take (gapsIn (c .before .before .before .before .before .before .args .s .now)) (c .before .before .before .before .before .before .args .s .now)
+gap c =
+    let s = c .before .before .before .before .before .before .args .s .now in
+    let g = c .before .before .before .gaps-in in
+    c .part2 .ensures ∙ part-is-front s (g .result) ∙ ap (λ (n : ℕ). take n s) (g .ensures)
+
+returns : tie.Need-returns
+returns c =
+    let a = c .before .before .args in
+    sym (gap-plain (a .s .now) (a .kind) (a .k) (a .sep) (eq-eqb (a .sep) 0 (c .if1 .taken)))
+
+gaps-in-requires : tie.Need-gaps-in-requires
+gaps-in-requires c κs = search needs
+
+part-requires : tie.Need-part-requires
+part-requires c κs = search needs
+
+item-due-requires : tie.Need-item-due-requires
+item-due-requires c κs = search needs
+
+part-requires-2 : tie.Need-part-requires-2
+part-requires-2 c κs = search needs
+
+gap-said-requires : tie.Need-gap-said-requires
+gap-said-requires c κs = search needs
+
+returns-2 : tie.Need-returns-2
+returns-2 c =
+    let a = c .before .before .before .before .before .before .before .args in
+    c .gap-said .ensures ∙ (λ i. gapSaid (gap (c .before) i) (a .sep) (due (c .before .before) i)) ∙
+    sym (gap-cells (a .s .now) (a .kind) (a .k) (a .sep) (ne-eqb (a .sep) 0 (c .before .before .before .before .before .if1 .left)))
+
+pub gap-before-spec : {M : Type 1} → statement M
+gap-before-spec =
+    tie.close (tie.spec returns gaps-in-requires part-requires item-due-requires part-requires-2 gap-said-requires returns-2)
