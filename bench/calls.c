@@ -1,19 +1,24 @@
-/* calls RUNS BOOK: the library's calls through its C boundary against the plain implementation's, on the same input in the same run: a whole book, and its
-   records one by one. calls RUNS BOOK desk: desk messages, under the book's sheet. Both sides make the same checks, soundness of what is lent in every
-   call included. Prints the least processor time of a number of runs, and the ratio. Both sides must come to the same ledger and map. */
+/* calls library|plain book|records|desk BOOK: calls of the library through its C boundary, or the same of the plain implementation: a book whole, its records
+   one by one, or desk messages under the book's sheet. Both sides make the same checks, soundness of what is lent in every call included. The work is done
+   once before it is timed, so that code and input are at hand. Prints for bench/measure.c the nanoseconds of processor time, the number of records or
+   messages, and a word made of the ledger and the map, which both sides must come to. */
 #define _POSIX_C_SOURCE 200809L
+#include <fcntl.h>
 #include <inttypes.h>
 #include <stdio.h>
 #include <stdlib.h>
 #include <string.h>
+#include <sys/mman.h>
+#include <sys/stat.h>
 #include <time.h>
 
 #include "../outside/plain.h"
 #include "temelyak.h"
 
-enum { OUTAGES = 20000, AT_A_TIME = 16, MOST_STEPS = 16, ROOM = 1 << 26 };
+enum { OUTAGES = 4000, AT_A_TIME = 16, MOST_STEPS = 16 };
 
-static uint8_t book[ROOM], messages[OUTAGES * (13 + 7 + 23 * MOST_STEPS)];
+static const uint8_t *book;
+static uint8_t messages[OUTAGES * (13 + 7 + 23 * MOST_STEPS)];
 static size_t book_bytes, messages_bytes, records, message_count;
 
 static temelyak_ledger ledger;
@@ -101,11 +106,14 @@ static void make_messages(void) {
     }
 }
 
-static void read_book(const char *name) {
-    FILE *file = fopen(name, "rb");
-    if (!file) exit(2);
-    book_bytes = fread(book, 1, sizeof book, file);
-    fclose(file);
+/* The file lies in memory once for all who map it, so that all sides read the same bytes at the same places. */
+static void find_book(const char *name) {
+    struct stat found;
+    int file = open(name, O_RDONLY);
+    if (file < 0 || fstat(file, &found)) exit(2);
+    book_bytes = (size_t)found.st_size;
+    book = mmap(NULL, book_bytes, PROT_READ, MAP_SHARED, file, 0);
+    if (book == MAP_FAILED) exit(2);
     for (size_t at = 0; at < book_bytes; at += length_at(book + at)) records++;
 }
 
@@ -167,53 +175,72 @@ static void plain_messages(void) {
     }
 }
 
+/* ---- what a side came to */
+
+static uint64_t mixed = UINT64_C(14695981039346656037);
+
+static void mix(uint64_t number) { mixed = (mixed ^ number) * UINT64_C(1099511628211); }
+
+static void mix_map(const uint8_t *bytes) {
+    for (size_t k = 0; k < PLAIN_MAP_BYTES; k++) mix(bytes[k]);
+}
+
+static void mix_library(void) {
+    mix(ledger.year);
+    mix(ledger.events);
+    mix(ledger.short_events);
+    for (unsigned row = 0; row < PLAIN_TYPES; row++)
+        for (unsigned level = 0; level < PLAIN_LEVELS; level++) {
+            mix(ledger.cells[row][level].customers);
+            mix(ledger.cells[row][level].half_minutes);
+        }
+    mix_map(map);
+}
+
+static void mix_plain(void) {
+    mix(other_ledger.year);
+    mix(other_ledger.events);
+    mix(other_ledger.shorts);
+    for (unsigned row = 0; row < PLAIN_TYPES; row++)
+        for (unsigned level = 0; level < PLAIN_LEVELS; level++) {
+            mix(other_ledger.customers[row][level]);
+            mix(other_ledger.half_minutes[row][level]);
+        }
+    mix_map(other_map);
+}
+
 /* ---- measuring */
 
-static double seconds_of(void (*begin)(void), void (*work)(void)) {
+static const struct side {
+    const char *name;
+    void (*begin)(void), (*mix)(void), (*book)(void), (*records)(void), (*messages)(void);
+} sides[] = {{"library", begin_library, mix_library, library_book, library_records, library_messages},
+             {"plain", begin_plain, mix_plain, plain_book, plain_records, plain_messages}};
+
+static double nanoseconds_of(void (*work)(void)) {
     struct timespec from, to;
-    begin();
     clock_gettime(CLOCK_PROCESS_CPUTIME_ID, &from);
     work();
     clock_gettime(CLOCK_PROCESS_CPUTIME_ID, &to);
-    return (double)(to.tv_sec - from.tv_sec) + (double)(to.tv_nsec - from.tv_nsec) / 1e9;
-}
-
-static void must_be_same(const char *what) {
-    int same = ledger.year == other_ledger.year && ledger.events == other_ledger.events && ledger.short_events == other_ledger.shorts
-            && !memcmp(map, other_map, sizeof map) && answers == 0;
-    for (unsigned row = 0; row < TEMELYAK_ROWS; row++)
-        for (unsigned level = 0; level < TEMELYAK_LEVELS; level++)
-            same = same && ledger.cells[row][level].customers == other_ledger.customers[row][level]
-                && ledger.cells[row][level].half_minutes == other_ledger.half_minutes[row][level];
-    if (same) return;
-    printf("%s: not the same on both sides, or something refused\n", what);
-    exit(1);
-}
-
-static void compare(const char *what, size_t count, int runs, void (*library)(void), void (*plain)(void)) {
-    double ours = 1e18, theirs = 1e18;
-    for (int k = 0; k < runs; k++) {
-        double a = seconds_of(begin_library, library), b = seconds_of(begin_plain, plain);
-        ours = a < ours ? a : ours;
-        theirs = b < theirs ? b : theirs;
-    }
-    must_be_same(what);
-    printf("  %-32s proved %7.1f ns, %6.2f million a second; C %7.1f ns, %6.2f million a second; ratio %.2f\n", what, ours / (double)count * 1e9,
-           (double)count / ours / 1e6, theirs / (double)count * 1e9, (double)count / theirs / 1e6, ours / theirs);
+    return (double)(to.tv_sec - from.tv_sec) * 1e9 + (double)(to.tv_nsec - from.tv_nsec);
 }
 
 int main(int argc, char **argv) {
-    if (argc < 3) return 2;
-    int runs = atoi(argv[1]);
-    read_book(argv[2]);
-    if (argc == 3) {
-        compare("whole book, each record", records, runs, library_book, plain_book);
-        compare("single records, each", records, runs, library_records, plain_records);
-        return 0;
-    }
+    if (argc != 4) return 2;
+    const struct side *side = strcmp(argv[1], "library") == 0 ? &sides[0] : strcmp(argv[1], "plain") == 0 ? &sides[1] : NULL;
+    if (!side) return 2;
+    void (*work)(void) = strcmp(argv[2], "book") == 0 ? side->book : strcmp(argv[2], "records") == 0 ? side->records : side->messages;
+    find_book(argv[3]);
     make_messages();
-    printf("desk messages: %d outages of 1 to %d steps, %d open at a time, %zu messages, least of %d runs:\n", OUTAGES, MOST_STEPS, AT_A_TIME, message_count,
-           runs);
-    compare("desk messages, each", message_count, runs, library_messages, plain_messages);
+    side->begin();
+    work();
+    side->begin();
+    double nanoseconds = nanoseconds_of(work);
+    if (answers) {
+        fprintf(stderr, "calls %s %s: something was refused\n", argv[1], argv[2]);
+        return 1;
+    }
+    side->mix();
+    printf("%.0f %zu %016" PRIx64 "\n", nanoseconds, work == side->messages ? message_count : records, mixed);
     return 0;
 }

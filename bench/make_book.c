@@ -1,6 +1,7 @@
-/* make_book simple|stepped: a book of 65,535 simple events, or of some 60 MB of stepped ones, on standard output. The same each time. */
+/* make_book simple|stepped EVENTS: a book of so many simple events, or of stepped ones of 56 to 64 steps, on standard output. The same each time. */
 #include <stdint.h>
 #include <stdio.h>
+#include <stdlib.h>
 #include <string.h>
 
 static uint64_t seed = 20091117;
@@ -39,14 +40,15 @@ static int head(uint32_t length, int kind, uint32_t number, uint32_t t0) {
 }
 
 int main(int argc, char **argv) {
-  int stepped = argc > 1 && strcmp(argv[1], "stepped") == 0;
-  size = 0;
+  if (argc != 3) return 2;
+  int stepped = strcmp(argv[1], "stepped") == 0;
+  uint32_t events = (uint32_t)atoi(argv[2]);
   put(18, 2);
   put(1, 2);
   put(2009, 2);
   counts(2, 450000, 1000, 20);
   fwrite(record, 1, size, stdout);
-  for (uint32_t number = 1; number <= (stepped ? 60000 : 65535); number++) {
+  for (uint32_t number = 1; number <= events; number++) {
     uint32_t t = below(500000);
     if (stepped) {
       uint32_t steps = 56 + below(9);
