@@ -1,8 +1,12 @@
 -- The two tests are those of the definition. Assumes nothing.
+use Prim.Native.Nat.{ℕ}
 use mathlib.Core.Path.{_≡_, sym, ap, _∙_}
+use mathlib.Core.List.{List}
+use mathlib.Core.Bool.{false, _&&_}
 use borrow.Author.Needs.{needs}
 use borrow.Author.Tests.{not-true, not-false}
-use Rattle.likeness.specs.Likeness.{isLetter, isHeader}
+use Rattle.wire.specs.Numbers.{byteAt}
+use Rattle.likeness.specs.Likeness.{isLetter, lettersIn, isHeader}
 use Rattle.likeness.proofs.is_header.Statement.{statement}
 use Rattle.likeness.proofs.is_header.Tie as tie
 
@@ -12,12 +16,15 @@ byte-at-requires c κs = search needs
 is-letter-requires : tie.Need-is-letter-requires
 is-letter-requires c κs = search needs
 
-returns : tie.Need-returns
+no-header : (s : List ℕ) → isLetter (byteAt s 0) ≡ false → false ≡ isHeader s
 unfolding isHeader
+no-header s e = sym (ap (λ t. t && lettersIn false s) e)
+
+returns : tie.Need-returns
 returns c =
     let m = c .before .is-letter in
     let none = sym (m .ensures ∙ ap isLetter (c .before .before .byte-at .ensures)) ∙ not-true (m .result) (c .if1 .taken) in
-    rw (isHeader, none)
+    no-header _ none
 
 letters-in-requires : tie.Need-letters-in-requires
 letters-in-requires c κs = search needs
