@@ -34,9 +34,7 @@ rest-once = refl
 module _ (book : List ℕ) (accepted : Accepted book) where
   totals-are : (level : Level) (set : Set) → TotalsAre book level set
   totals-are level set =
-      let by-types = types-add (bookLedger book) level set in
-      let by-events = events-add book accepted level (typesIn set) (set-once set) in
-      record { customers = by-types .customers ∙ by-events .customers; halves = by-types .halves ∙ by-events .halves }
+      λ x. types-add (bookLedger book) level set x ∙ events-add book accepted level (typesIn set) (set-once set) x
 
   nobody-off : (level : Level) (set : Set) → servedOf (bookLedger book .sheet .totals) level ≡ 0 → NobodyOff (bookLedger book) level set
   nobody-off level set = none-off book accepted level set (totals-are level set)

@@ -6,9 +6,9 @@ use mathlib.Core.List.{List, [], _∷_, map}
 use mathlib.Core.Bool.{true}
 use native.Mathlib.Omega.{arith}
 use Rattle.base.specs.Lists.{sum}
-use Rattle.codes.specs.Codes.{rows, rowOf}
-use Rattle.annex.specs.Annex.{njh, njhtjh2}
-use Rattle.ledger.specs.Ledger.{cellOf}
+use Rattle.codes.specs.Codes.{rows, levels, rowOf}
+use Rattle.annex.specs.Figure.{Figure, given}
+use Rattle.ledger.specs.Ledger.{heldIn}
 use Rattle.sums.specs.Accepted.{Accepted, eventIn}
 use Rattle.sums.specs.Theorem.{eventsOf, bookLedger, IsSum}
 use Rattle.sums.proofs.AnnexTheorem.{accepted-book-adds}
@@ -34,43 +34,22 @@ module _ (book : List ℕ) (accepted : Accepted book) where
   sums : IsSum book
   sums = accepted-book-adds book accepted
 
-  -- of a level h below 3
-  module _ (h : ℕ) (b : h < 3) where
-    customers-count :
-        (ts : List ℕ) →
-        eachOnce ts ≡ true →
-        sum (map (λ (typ : ℕ). cellOf (bookLedger book) (rowOf typ) h .customers .0) ts) ≡
-        sum (map (λ (s : List ℕ). njh h (eventIn s)) (counted ts (eventsOf book)))
-    customers-count =
-        types-count (λ (typ : ℕ). cellOf (bookLedger book) (rowOf typ) h .customers .0) (λ (s : List ℕ). njh h (eventIn s)) (eventsOf book)
-        (λ typ r.
-        sums .customers (rowOf typ) h r b ∙
-        sym (ap (λ (es : List (List ℕ)). sum (map (λ (s : List ℕ). njh h (eventIn s)) es)) (counted-by-row typ r (eventsOf book))))
-
-    halves-count :
-        (ts : List ℕ) →
-        eachOnce ts ≡ true →
-        sum (map (λ (typ : ℕ). cellOf (bookLedger book) (rowOf typ) h .halves .0) ts) ≡
-        sum (map (λ (s : List ℕ). njhtjh2 h (eventIn s)) (counted ts (eventsOf book)))
-    halves-count =
-        types-count (λ (typ : ℕ). cellOf (bookLedger book) (rowOf typ) h .halves .0) (λ (s : List ℕ). njhtjh2 h (eventIn s)) (eventsOf book)
-        (λ typ r.
-        sums .halves (rowOf typ) h r b ∙
-        sym (ap (λ (es : List (List ℕ)). sum (map (λ (s : List ℕ). njhtjh2 h (eventIn s)) es)) (counted-by-row typ r (eventsOf book))))
+  types-hold :
+      (x : Figure) (h : ℕ) →
+      h < levels →
+      (ts : List ℕ) →
+      eachOnce ts ≡ true →
+      sum (map (λ (typ : ℕ). heldIn x (bookLedger book) (rowOf typ) h) ts) ≡ sum (map (λ (s : List ℕ). given x h (eventIn s)) (counted ts (eventsOf book)))
+  types-hold x h b =
+      types-count (λ (typ : ℕ). heldIn x (bookLedger book) (rowOf typ) h) (λ (s : List ℕ). given x h (eventIn s)) (eventsOf book)
+      (λ typ r.
+      sums .cells x (rowOf typ) h r b ∙
+      sym (ap (λ (es : List (List ℕ)). sum (map (λ (s : List ℕ). given x h (eventIn s)) es)) (counted-by-row typ r (eventsOf book))))
 
   pub events-add : (level : Level) (ts : List ℕ) → eachOnce ts ≡ true → EventsAdd book level ts
-  events-add level ts once =
-      record {
-        customers =
-            sum-across level (λ (typ : ℕ) (h : Level). cellOf (bookLedger book) (rowOf typ) (placeOf h) .customers .0) ts ∙
-            across-alike level _ _
-            (customers-count 0 (omega arith) ts once)
-            (customers-count 1 (omega arith) ts once)
-            (customers-count 2 (omega arith) ts once);
-        halves =
-            sum-across level (λ (typ : ℕ) (h : Level). cellOf (bookLedger book) (rowOf typ) (placeOf h) .halves .0) ts ∙
-            across-alike level _ _
-            (halves-count 0 (omega arith) ts once)
-            (halves-count 1 (omega arith) ts once)
-            (halves-count 2 (omega arith) ts once);
-      }
+  events-add level ts once x =
+      sum-across level (λ (typ : ℕ) (h : Level). heldIn x (bookLedger book) (rowOf typ) (placeOf h)) ts ∙
+      across-alike level _ _
+      (types-hold x 0 (omega arith) ts once)
+      (types-hold x 1 (omega arith) ts once)
+      (types-hold x 2 (omega arith) ts once)

@@ -10,6 +10,7 @@ use borrow.Author.Tests.{eqb-true, eqb-false}
 use Rattle.base.proofs.TestLaws.{Tested, holds, fails, test}
 use Rattle.ratio.specs.declared.Fraction.{Fraction}
 use Rattle.codes.specs.declared.Set.{Set}
+use Rattle.annex.specs.Figure.{Off}
 use Rattle.ledger.specs.declared.Ledger.{Ledger}
 use Rattle.ledger.specs.Sound.{soundLedger}
 use Rattle.sums.specs.Theorem.{bookLedger}
@@ -17,11 +18,12 @@ use Rattle.index.specs.declared.Level.{Level}
 use Rattle.index.specs.declared.Index.{Index}
 use Rattle.index.specs.declared.Index.the-variants.{Saifi, Saidi, Caidi}
 use Rattle.index.specs.declared.Answer.the-variants.{Is, Refused}
-use Rattle.index.specs.Sums.{totalOf, servedOf}
+use Rattle.index.specs.Sums.{servedOf}
 use Rattle.index.specs.Index.{indexOf}
-use Rattle.index.proofs.IndexLaws.{Way, unsound, sheetless, divides-by-nobody, answered, index-exactly, sheetless-refused, nobody-refused, somebody-answered, caidi-times-saifi}
+use Rattle.index.specs.Answered.{Way, unsound, sheetless, divides-by-nobody, answered}
+use Rattle.index.proofs.IndexLaws.{index-exactly, sheetless-refused, nobody-refused, somebody-answered, caidi-times-saifi}
 use Rattle.adding.specs.Adding as said
-use Rattle.adding.specs.Adding.{Identity, Multiplies}
+use Rattle.adding.specs.Adding.{totalHeld, Identity, Multiplies}
 use Rattle.adding.proofs.BookLaws.{book-sound}
 
 module _ (l : Ledger) (level : Level) (set : Set) where
@@ -38,7 +40,7 @@ module _ (l : Ledger) (level : Level) (set : Set) where
       n = servedOf (l .sheet .totals) level
 
       interrupted : ℕ
-      interrupted = totalOf (l .cells) level set .customers .0
+      interrupted = totalHeld Off l level set
 
       third : l .sheet .there ≡ true → (n ≡ 0 → ⊥) → Tested (eqb interrupted 0) → Identity l level set
       third t somebody (holds e) =

@@ -6,15 +6,16 @@ use native.Mathlib.Omega.{arith}
 use Rattle.ratio.specs.Lowest.{lowestOf}
 use Rattle.codes.specs.declared.Set.the-variants.{All, Std}
 use Rattle.codes.specs.Codes.{types}
+use Rattle.annex.specs.Figure.{Off, Halves}
 use Rattle.ledger.specs.declared.Ledger.{Ledger}
 use Rattle.ledger.specs.Sound.{soundLedger}
 use Rattle.index.specs.declared.Level.{Level}
 use Rattle.index.specs.declared.Index.the-variants.{Saifi, Saidi}
-use Rattle.index.specs.Sums.{totalOf, servedOf}
+use Rattle.index.specs.Sums.{servedOf}
 use Rattle.index.specs.Index.{formulaOf}
 use Rattle.index.proofs.IndexLaws.{somebody-answered}
-use Rattle.adding.specs.Parts.{rest, together, typeCustomers, typeHalves}
-use Rattle.adding.specs.Adding.{IndexAdds}
+use Rattle.adding.specs.Parts.{rest, typeHolds, typesHold}
+use Rattle.adding.specs.Adding.{totalHeld, IndexAdds}
 use Rattle.adding.proofs.BookLaws.{served-by-sheet}
 use Rattle.adding.proofs.TotalLaws.{types-add, rest-adds}
 use Rattle.adding.proofs.FractionLaws.{lowest-adds, lowest-adds-all}
@@ -42,12 +43,9 @@ module _ (l : Ledger) (sound : soundLedger l ≡ true) (level : Level) (somebody
         over-one-n = λ ts set. refl;
         exists = λ ts. exists;
         rest-adds =
-            lowest-adds (1 * n) exists (totalOf (l .cells) level All .customers .0) (totalOf (l .cells) level Std .customers .0)
-            (together l level rest .customers .0)
-            (rest-adds l level .customers);
+            lowest-adds (1 * n) exists (totalHeld Off l level All) (totalHeld Off l level Std) (typesHold Off l level rest) (rest-adds l level Off);
         types-add =
-            lowest-adds-all (1 * n) exists (totalOf (l .cells) level All .customers .0) (typeCustomers l level) types
-            (types-add l level All .customers);
+            lowest-adds-all (1 * n) exists (totalHeld Off l level All) (typeHolds Off l level) types (types-add l level All Off);
       }
 
   pub saidi-adds : IndexAdds l Saidi level
@@ -60,10 +58,8 @@ module _ (l : Ledger) (sound : soundLedger l ≡ true) (level : Level) (somebody
         over-one-n = λ ts set. refl;
         exists = λ ts. twice-exists;
         rest-adds =
-            lowest-adds (2 * n) twice-exists (totalOf (l .cells) level All .halves .0) (totalOf (l .cells) level Std .halves .0)
-            (together l level rest .halves .0)
-            (rest-adds l level .halves);
+            lowest-adds (2 * n) twice-exists (totalHeld Halves l level All) (totalHeld Halves l level Std) (typesHold Halves l level rest)
+            (rest-adds l level Halves);
         types-add =
-            lowest-adds-all (2 * n) twice-exists (totalOf (l .cells) level All .halves .0) (typeHalves l level) types
-            (types-add l level All .halves);
+            lowest-adds-all (2 * n) twice-exists (totalHeld Halves l level All) (typeHolds Halves l level) types (types-add l level All Halves);
       }

@@ -4,20 +4,23 @@ use Prim.Native.Nat.{ℕ, _+_, _<_, _≤_}
 use mathlib.Core.Path.{_≡_, refl, sym, ap, subst, _∙_}
 use mathlib.Core.Logic.{_⊎_, inl, inr, ⊎-elim}
 use mathlib.Core.List.{List, [], _∷_, map}
-use mathlib.Core.Bool.{Bool, true, false, _&&_, _||_, not, cond, true≢false}
+use mathlib.Core.Bool.{true, false, _&&_, _||_, not, cond, true≢false}
 use lib.ListN.{length, getD}
 use lib.Dec.{eqb, ltb}
 use native.Mathlib.Omega.{arith}
 use borrow.Author.Tests.{eqb-true, eqb-false, eq-eqb, ltb-false, not-false}
-use Rattle.base.specs.Lists.{All, any, keep, largest, sum}
+use Rattle.base.specs.Lists.{All, any, largest, sum}
 use Rattle.base.proofs.ChainLaws.{each-fails}
 use Rattle.base.proofs.TestLaws.{Tested, holds, fails, test, or-left, or-right}
+use Rattle.base.proofs.SumLaws.{sum-none}
 use Rattle.wire.specs.Frame.{kindOf}
 use Rattle.wire.specs.Cut.{recordsOf}
 use Rattle.codes.specs.declared.Set.{Set}
+use Rattle.codes.specs.Codes.{levels}
 use Rattle.annex.specs.declared.Simple.{Simple}
 use Rattle.annex.specs.declared.Step.{Step}
 use Rattle.annex.specs.Annex.{Event, simple, stepped, countsOf, weighed, njh, njhtjh2}
+use Rattle.annex.specs.Figure.{Figure, Off, Halves, given}
 use Rattle.annex.proofs.FoldLaws.{each-level}
 use Rattle.marks.specs.Marks.{mapSize}
 use Rattle.fields.specs.declared.Sheet.{Sheet}
@@ -31,7 +34,7 @@ use Rattle.ledger.specs.Sound.{soundLedger}
 use Rattle.ledger.specs.Take.{answerOf, ledgerAfter}
 use Rattle.ledger.proofs.TakeLaws.{accepted-sound, accepted-adds, refused-hands-back}
 use Rattle.ledger.proofs.SoundLaws.{verdict-fits}
-use Rattle.ledger.proofs.ExactlyThen.{exactly-0}
+use Rattle.ledger.proofs.ExactlyThen.{accepted-rules}
 use Rattle.book.specs.Book.{State, starting, takeRecord, takeAll}
 use Rattle.sums.specs.Accepted.{zeroMap, Accepted, eventIn, acceptedEvents}
 use Rattle.sums.specs.Theorem.{eventsOf, bookLedger}
@@ -39,17 +42,20 @@ use Rattle.sums.proofs.AnnexTheorem.{accepted-book-adds}
 use Rattle.index.specs.declared.Level.{Level}
 use Rattle.index.specs.declared.Level.the-variants.{NN, VN, VVN, Network}
 use Rattle.index.specs.Sums.{servedOf}
-use Rattle.adding.specs.Parts.{typesIn, counted, eventCustomers, eventHalves}
+use Rattle.adding.specs.Parts.{typesIn, counted, eventsHold}
 use Rattle.adding.specs.Adding.{TotalsAre, NobodyOff}
 
 -- ---- one event
 
--- an event interrupts nobody of level h
-record None (h : ℕ) (e : Event) : Type 0 where
-  customers : njh h e ≡ 0
-  halves : njhtjh2 h e ≡ 0
+each-figure : (P : Figure → Type 0) → P Off → P Halves → (x : Figure) → P x
+each-figure P p q Off = p
+each-figure P p q Halves = q
 
-module _ (totals : List ℕ) (h : ℕ) (b : h < 3) (z : getD totals h 0 ≡ 0) where
+-- an event interrupts nobody of level h
+abbrev None : ℕ → Event → Type 0
+None h e = (x : Figure) → given x h e ≡ 0
+
+module _ (totals : List ℕ) (h : ℕ) (b : h < levels) (z : getD totals h 0 ≡ 0) where
   -- counts that do not exceed the levels' customers
   no-count : (counts : List ℕ) → exceeding totals counts ≡ false → getD counts h 0 ≡ 0
   no-count counts e = let l : getD counts h 0 ≤ getD totals h 0 = within h b in omega arith
@@ -61,7 +67,7 @@ module _ (totals : List ℕ) (h : ℕ) (b : h < 3) (z : getD totals h 0 ≡ 0) w
           (ltb (getD totals 1 0) (getD counts 1 0) ∷ ltb (getD totals 2 0) (getD counts 2 0) ∷ [])
           e
 
-      within : (h : ℕ) → h < 3 → getD counts h 0 ≤ getD totals h 0
+      within : (h : ℕ) → h < levels → getD counts h 0 ≤ getD totals h 0
       within =
           each-level (λ h. getD counts h 0 ≤ getD totals h 0) (ltb-false _ _ (k .0)) (ltb-false _ _ (k .1 .0)) (ltb-false _ _ (k .1 .1 .0))
 
@@ -70,7 +76,7 @@ module _ (totals : List ℕ) (h : ℕ) (b : h < 3) (z : getD totals h 0 ≡ 0) w
   simple-none e c =
       let first : getD (e .n1) h 0 ≡ 0 = no-count (e .n1) (or-left (exceeding totals (e .n1)) (exceeding totals (e .n2)) c) in
       let second : getD (e .n2) h 0 ≡ 0 = no-count (e .n2) (or-right (exceeding totals (e .n1)) (exceeding totals (e .n2)) c) in
-      record { customers = first; halves = rw (first, second) (omega arith) }
+      each-figure (λ x. given x h (simple e) ≡ 0) first (rw (first, second) (omega arith))
 
   steps-none :
       (ss : List Step) →
@@ -85,12 +91,12 @@ module _ (totals : List ℕ) (h : ℕ) (b : h < 3) (z : getD totals h 0 ≡ 0) w
 
   stepped-none : (t0 : ℕ) (ss : List Step) → any (λ (st : Step). exceeding totals (st .counts)) ss ≡ false → None h (stepped t0 ss)
   unfolding njh njhtjh2
-  stepped-none t0 ss c = let n = steps-none ss c in record { customers = n .0; halves = omega (arith, n .1 t0) }
+  stepped-none t0 ss c = let n = steps-none ss c in each-figure (λ x. given x h (stepped t0 ss) ≡ 0) (n .0) (omega (arith, n .1 t0))
 
 -- an accepted event has a sheet, and interrupts nobody of a level without customers
 module _ (l : Ledger) (m s : List ℕ) (a : answerOf l m s ≡ 0) (k : eqb (kindOf s) 1 ≡ false) where
   by-kind : (P : Type 0) → (kindOf s ≡ 2 → P) → (kindOf s ≡ 3 → P) → P
-  by-kind P two three = go (kind-taken (kindOf s) (exactly-0 l m s .0 a .1 .1 .0))
+  by-kind P two three = go (kind-taken (kindOf s) (accepted-rules l m s a 3))
     where
       go : (kindOf s ≡ 1) ⊎ ((kindOf s ≡ 2) ⊎ (kindOf s ≡ 3)) → P
       go (inl e) = absurd (true≢false (sym (eq-eqb (kindOf s) 1 e) ∙ k))
@@ -104,9 +110,9 @@ module _ (l : Ledger) (m s : List ℕ) (a : answerOf l m s ≡ 0) (k : eqb (kind
       (λ e. not-false (l .sheet .there) (subst (λ n. sheetMissingOrSecond n (l .sheet) ≡ false) e missing))
     where
       missing : sheetMissingOrSecond (kindOf s) (l .sheet) ≡ false
-      missing = exactly-0 l m s .0 a .1 .1 .1 .1 .0
+      missing = accepted-rules l m s a 5
 
-  event-none : (h : ℕ) → h < 3 → getD (l .sheet .totals) h 0 ≡ 0 → None h (eventIn s)
+  event-none : (h : ℕ) → h < levels → getD (l .sheet .totals) h 0 ≡ 0 → None h (eventIn s)
   event-none h b z =
       by-kind (None h (eventIn s))
       (λ e.
@@ -120,7 +126,7 @@ module _ (l : Ledger) (m s : List ℕ) (a : answerOf l m s ≡ 0) (k : eqb (kind
       event kind = cond (eqb kind 2) (simple (simpleIn s)) (stepped (headIn s .t0) (stepsIn s))
 
       large : countTooLarge (kindOf s) s (l .sheet) ≡ false
-      large = exactly-0 l m s .0 a .1 .1 .1 .1 .1 .1 .1 .1 .0
+      large = accepted-rules l m s a 11
 
 -- ---- a book's events, under one sheet
 
@@ -153,7 +159,7 @@ sheet-kept st (s ∷ ss) t =
 -- of all the accepted events, by the customers of the last sheet
 none-among :
     (h : ℕ) →
-    h < 3 →
+    h < levels →
     (st : State) (ss : List (List ℕ)) →
     getD (takeAll st ss .ledger .sheet .totals) h 0 ≡ 0 →
     All (λ (s : List ℕ). None h (eventIn s)) (acceptedEvents st ss)
@@ -182,44 +188,26 @@ none-among h b st (s ∷ ss) z =
           n,
         )
 
--- a sum of nothing
-sum-none : {A : Type 0} (P : A → Type 0) (v : A → ℕ) (f : A → Bool) → ((x : A) → P x → v x ≡ 0) → (xs : List A) → All P xs → sum (map v (keep f xs)) ≡ 0
-sum-none P v f e [] n = refl
-sum-none P v f e (x ∷ xs) n = go (f x) (sum-none P v f e xs (n .1))
-  where
-    go : (t : Bool) → sum (map v (keep f xs)) ≡ 0 → sum (map v (cond t (x ∷ keep f xs) (keep f xs))) ≡ 0
-    go true r = omega (arith, e x (n .0), r)
-    go false r = r
-
 module _ (book : List ℕ) (accepted : Accepted book) where
-  module _ (h : ℕ) (b : h < 3) (z : getD (bookLedger book .sheet .totals) h 0 ≡ 0) where
+  module _ (h : ℕ) (b : h < levels) (z : getD (bookLedger book .sheet .totals) h 0 ≡ 0) where
     nones : All (λ (s : List ℕ). None h (eventIn s)) (eventsOf book)
     nones =
         subst (All (λ (s : List ℕ). None h (eventIn s))) (accepted-book-adds book accepted .all)
         (none-among h b (starting emptyLedger zeroMap) (recordsOf book) z)
 
-    no-customers : (ts : List ℕ) → sum (map (λ (s : List ℕ). njh h (eventIn s)) (counted ts (eventsOf book))) ≡ 0
-    no-customers ts = sum-none (λ (s : List ℕ). None h (eventIn s)) (λ (s : List ℕ). njh h (eventIn s)) _ (λ s n. n .customers) (eventsOf book) nones
-
-    no-halves : (ts : List ℕ) → sum (map (λ (s : List ℕ). njhtjh2 h (eventIn s)) (counted ts (eventsOf book))) ≡ 0
-    no-halves ts = sum-none (λ (s : List ℕ). None h (eventIn s)) (λ (s : List ℕ). njhtjh2 h (eventIn s)) _ (λ s n. n .halves) (eventsOf book) nones
+    none-given : (x : Figure) (ts : List ℕ) → sum (map (λ (s : List ℕ). given x h (eventIn s)) (counted ts (eventsOf book))) ≡ 0
+    none-given x ts = sum-none (λ (s : List ℕ). None h (eventIn s)) (λ (s : List ℕ). given x h (eventIn s)) _ (λ s n. n x) (eventsOf book) nones
 
   no-events-off :
-      (level : Level) (ts : List ℕ) →
-      servedOf (bookLedger book .sheet .totals) level ≡ 0 →
-      (eventCustomers ts level (eventsOf book) ≡ 0) × (eventHalves ts level (eventsOf book) ≡ 0)
-  no-events-off NN ts z = (no-customers 0 (omega arith) z ts, no-halves 0 (omega arith) z ts)
-  no-events-off VN ts z = (no-customers 1 (omega arith) z ts, no-halves 1 (omega arith) z ts)
-  no-events-off VVN ts z = (no-customers 2 (omega arith) z ts, no-halves 2 (omega arith) z ts)
-  no-events-off Network ts z =
+      (x : Figure) (level : Level) (ts : List ℕ) → servedOf (bookLedger book .sheet .totals) level ≡ 0 → eventsHold x ts level (eventsOf book) ≡ 0
+  no-events-off x NN ts z = none-given 0 (omega arith) z x ts
+  no-events-off x VN ts z = none-given 1 (omega arith) z x ts
+  no-events-off x VVN ts z = none-given 2 (omega arith) z x ts
+  no-events-off x Network ts z =
       let nn : getD (bookLedger book .sheet .totals) 0 0 ≡ 0 = omega arith in
       let vn : getD (bookLedger book .sheet .totals) 1 0 ≡ 0 = omega arith in
-      let vvn : getD (bookLedger book .sheet .totals) 2 0 ≡ 0 = omega arith in (
-        λ i. no-customers 0 (omega arith) nn ts i + no-customers 1 (omega arith) vn ts i + no-customers 2 (omega arith) vvn ts i,
-        λ i. no-halves 0 (omega arith) nn ts i + no-halves 1 (omega arith) vn ts i + no-halves 2 (omega arith) vvn ts i,
-      )
+      let vvn : getD (bookLedger book .sheet .totals) 2 0 ≡ 0 = omega arith in
+      λ i. none-given 0 (omega arith) nn x ts i + none-given 1 (omega arith) vn x ts i + none-given 2 (omega arith) vvn x ts i
 
   pub none-off : (level : Level) (set : Set) → TotalsAre book level set → servedOf (bookLedger book .sheet .totals) level ≡ 0 → NobodyOff (bookLedger book) level set
-  none-off level set are z =
-      let none = no-events-off level (typesIn set) z in
-      record { customers = are .customers ∙ none .0; halves = are .halves ∙ none .1 }
+  none-off level set are z x = are x ∙ no-events-off x level (typesIn set) z

@@ -7,79 +7,61 @@ use Rattle.base.specs.Lists.{sum}
 use Rattle.codes.specs.declared.Set.{Set}
 use Rattle.codes.specs.declared.Set.the-variants.{All, Std, Unnamed}
 use Rattle.codes.specs.Codes.{rowOf, rowHeld}
+use Rattle.annex.specs.Figure.{Figure, Off, Halves}
 use Rattle.ledger.specs.declared.Cell.{Cell}
 use Rattle.ledger.specs.declared.Ledger.{Ledger}
-use Rattle.ledger.specs.Ledger.{cellOf}
+use Rattle.ledger.specs.Ledger.{held, heldIn}
+use Rattle.ledger.proofs.CellLaws.{held-by}
 use Rattle.index.specs.declared.Level.{Level}
 use Rattle.index.specs.declared.Level.the-variants.{NN, VN, VVN, Network}
 use Rattle.index.specs.Sums.{levelSum, totalOf}
-use Rattle.index.proofs.AddLaws.{network-adds-levels, restOf, std-and-rest}
-use Rattle.adding.specs.Parts.{placeOf, across, typesIn, rest, together}
-use Rattle.adding.specs.Adding.{LevelsAdd, TypesAdd, RestAdds}
+use Rattle.index.specs.Parts.{levelRest, restOf}
+use Rattle.index.proofs.AddLaws.{network-adds-levels, std-and-rest}
+use Rattle.adding.specs.Parts.{placeOf, across, typesIn, rest, typesHold}
+use Rattle.adding.specs.Adding.{totalHeld, LevelsAdd, TypesAdd, RestAdds}
 use Rattle.adding.proofs.SumLaws.{sum-across, across-alike}
 
 module _ (l : Ledger) where
   pub levels-add : (set : Set) → LevelsAdd l set
-  levels-add set =
-      let levels = network-adds-levels (l .cells) (l .sheet .totals) set in
-      record { customers = levels .customers; halves = levels .halves; served = levels .served }
+  levels-add set = let levels = network-adds-levels (l .rows) (l .sheet .totals) set in record { figures = levels .figures; served = levels .served }
 
   -- a level's sums, row by row in the order of the types
-  level-customers :
-      (h : ℕ) (set : Set) →
-      levelSum (l .cells) h set .customers .0 ≡ sum (map (λ (typ : ℕ). cellOf l (rowOf typ) h .customers .0) (typesIn set))
+  level-holds : (x : Figure) (h : ℕ) (set : Set) → held x (levelSum (l .rows) h set) ≡ sum (map (λ (typ : ℕ). heldIn x l (rowOf typ) h) (typesIn set))
   unfolding levelSum rowHeld rowOf
-  level-customers h All = omega arith
-  level-customers h Std = omega arith
-  level-customers h Unnamed = omega arith
-
-  level-halves :
-      (h : ℕ) (set : Set) → levelSum (l .cells) h set .halves .0 ≡ sum (map (λ (typ : ℕ). cellOf l (rowOf typ) h .halves .0) (typesIn set))
-  unfolding levelSum rowHeld rowOf
-  level-halves h All = omega arith
-  level-halves h Std = omega arith
-  level-halves h Unnamed = omega arith
+  level-holds Off h All = omega arith
+  level-holds Off h Std = omega arith
+  level-holds Off h Unnamed = omega arith
+  level-holds Halves h All = omega arith
+  level-holds Halves h Std = omega arith
+  level-holds Halves h Unnamed = omega arith
 
   -- a level's or the network's total, level by level
-  total-across :
-      (level : Level) (set : Set) →
-      (totalOf (l .cells) level set .customers .0 ≡ across level (λ (h : Level). levelSum (l .cells) (placeOf h) set .customers .0)) ×
-      (totalOf (l .cells) level set .halves .0 ≡ across level (λ (h : Level). levelSum (l .cells) (placeOf h) set .halves .0))
-  total-across NN set = (refl, refl)
-  total-across VN set = (refl, refl)
-  total-across VVN set = (refl, refl)
-  total-across Network set = (levels-add set .customers, levels-add set .halves)
+  total-across : (x : Figure) (level : Level) (set : Set) → totalHeld x l level set ≡ across level (λ (h : Level). held x (levelSum (l .rows) (placeOf h) set))
+  total-across x NN set = refl
+  total-across x VN set = refl
+  total-across x VVN set = refl
+  total-across x Network set = levels-add set .figures x
 
   pub types-add : (level : Level) (set : Set) → TypesAdd l level set
-  types-add level set =
-      record {
-        customers =
-            total-across level set .0 ∙
-            across-alike level _ _ (level-customers 0 set) (level-customers 1 set) (level-customers 2 set) ∙
-            sym (sum-across level (λ (typ : ℕ) (h : Level). cellOf l (rowOf typ) (placeOf h) .customers .0) (typesIn set));
-        halves =
-            total-across level set .1 ∙
-            across-alike level _ _ (level-halves 0 set) (level-halves 1 set) (level-halves 2 set) ∙
-            sym (sum-across level (λ (typ : ℕ) (h : Level). cellOf l (rowOf typ) (placeOf h) .halves .0) (typesIn set));
-      }
+  types-add level set x =
+      total-across x level set ∙
+      across-alike level _ _ (level-holds x 0 set) (level-holds x 1 set) (level-holds x 2 set) ∙
+      sym (sum-across level (λ (typ : ℕ) (h : Level). heldIn x l (rowOf typ) (placeOf h)) (typesIn set))
 
   -- the types 13 to 16, as the index's laws add them
-  rest-is :
-      (level : Level) →
-      (together l level rest .customers .0 ≡ restOf (l .cells) level .customers .0) ×
-      (together l level rest .halves .0 ≡ restOf (l .cells) level .halves .0)
-  rest-is NN = (omega arith, omega arith)
-  rest-is VN = (omega arith, omega arith)
-  rest-is VVN = (omega arith, omega arith)
-  rest-is Network = (omega arith, omega arith)
+  rest-is : (x : Figure) (level : Level) → typesHold x l level rest ≡ held x (restOf (l .rows) level)
+  unfolding levelRest rowHeld rowOf
+  rest-is Off NN = omega arith
+  rest-is Off VN = omega arith
+  rest-is Off VVN = omega arith
+  rest-is Off Network = omega arith
+  rest-is Halves NN = omega arith
+  rest-is Halves VN = omega arith
+  rest-is Halves VVN = omega arith
+  rest-is Halves Network = omega arith
 
   pub rest-adds : (level : Level) → RestAdds l level
-  rest-adds level =
-      record {
-        customers =
-            ap (λ (n : ℕ). totalOf (l .cells) level Std .customers .0 + n) (rest-is level .0) ∙
-            ap (λ (c : Cell). c .customers .0) (std-and-rest (l .cells) level);
-        halves =
-            ap (λ (n : ℕ). totalOf (l .cells) level Std .halves .0 + n) (rest-is level .1) ∙
-            ap (λ (c : Cell). c .halves .0) (std-and-rest (l .cells) level);
-      }
+  rest-adds level x =
+      ap (λ (n : ℕ). totalHeld x l level Std + n) (rest-is x level) ∙
+      sym (held-by (λ y. held y (totalOf (l .rows) level Std) + held y (restOf (l .rows) level)) x) ∙
+      ap (held x) (std-and-rest (l .rows) level)

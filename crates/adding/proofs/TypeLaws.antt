@@ -16,7 +16,8 @@ use Rattle.annex.specs.Annex.{shortEvent}
 use Rattle.fields.specs.Fields.{headIn}
 use Rattle.sums.specs.Accepted.{eventIn, rowIn, countedIn}
 use Rattle.adding.specs.Parts.{eachOnce, counted}
-use Rattle.adding.proofs.SumLaws.{sum-of-parts, keep-alike}
+use Rattle.base.proofs.SumLaws.{sum-of-parts}
+use Rattle.base.proofs.ListLaws.{keep-alike}
 
 -- what stands at the place of a number is the number
 at-its-place : (x : ℕ) (ts : List ℕ) → place x ts < length ts → getD ts (place x ts) 0 ≡ x

@@ -16,6 +16,7 @@ use Rattle.ratio.specs.Lowest.{lowestOf}
 use Rattle.ratio.proofs.Euclid.{lowest-same, lowest-lowest}
 use Rattle.ratio.proofs.SameLaws.{same-transitive}
 use Rattle.codes.specs.declared.Set.{Set}
+use Rattle.annex.specs.Figure.{Off, Halves}
 use Rattle.ledger.specs.declared.Ledger.{Ledger}
 use Rattle.ledger.specs.Sound.{soundLedger}
 use Rattle.index.specs.declared.Level.{Level}
@@ -23,11 +24,11 @@ use Rattle.index.specs.declared.Level.the-variants.{Network}
 use Rattle.index.specs.declared.Index.the-variants.{Saifi, Saidi}
 use Rattle.index.specs.declared.Answer.{Answer}
 use Rattle.index.specs.declared.Answer.the-variants.{Is, Refused}
-use Rattle.index.specs.Sums.{totalOf, servedOf}
+use Rattle.index.specs.Sums.{servedOf}
 use Rattle.index.specs.Index.{formulaOf, indexOf}
 use Rattle.index.proofs.IndexLaws.{nobody-refused, somebody-answered}
 use Rattle.adding.specs.Parts.{eachLevel, overEach, timesN}
-use Rattle.adding.specs.Adding.{NobodyOff, LevelsWeigh}
+use Rattle.adding.specs.Adding.{totalHeld, NobodyOff, LevelsWeigh}
 use Rattle.adding.proofs.BookLaws.{served-by-sheet}
 use Rattle.adding.proofs.TotalLaws.{levels-add}
 use Rattle.adding.proofs.FractionLaws.{overN, all-add, all-exist}
@@ -100,11 +101,11 @@ module _
     pub saifi-weighs : LevelsWeigh l Saifi set
     saifi-weighs =
         let adds =
-        all-shares 1 (omega arith) (λ (h : Level). indexOf l Saifi h set) (λ (h : Level). totalOf (l .cells) h set .customers .0)
+        all-shares 1 (omega arith) (λ (h : Level). indexOf l Saifi h set) (λ (h : Level). totalHeld Off l h set)
         (servedOf (l .sheet .totals))
         (λ h. somebody-answered l Saifi h set sound there)
-        (λ h z. (nobody-refused l Saifi h set sound there z, off h z .customers))
-        (omega (arith, levels-add l set .customers)) in
+        (λ h z. (nobody-refused l Saifi h set sound there z, off h z Off))
+        (omega (arith, levels-add l set .figures Off)) in
         record {
           network = lowestOf (formulaOf l Saifi Network set .top) (formulaOf l Saifi Network set .bottom);
           is-network = somebody-answered l Saifi Network set sound there somebody;
@@ -117,11 +118,11 @@ module _
     pub saidi-weighs : LevelsWeigh l Saidi set
     saidi-weighs =
         let adds =
-        all-shares 2 (omega arith) (λ (h : Level). indexOf l Saidi h set) (λ (h : Level). totalOf (l .cells) h set .halves .0)
+        all-shares 2 (omega arith) (λ (h : Level). indexOf l Saidi h set) (λ (h : Level). totalHeld Halves l h set)
         (servedOf (l .sheet .totals))
         (λ h. somebody-answered l Saidi h set sound there)
-        (λ h z. (nobody-refused l Saidi h set sound there z, off h z .halves))
-        (omega (arith, levels-add l set .halves)) in
+        (λ h z. (nobody-refused l Saidi h set sound there z, off h z Halves))
+        (omega (arith, levels-add l set .figures Halves)) in
         record {
           network = lowestOf (formulaOf l Saidi Network set .top) (formulaOf l Saidi Network set .bottom);
           is-network = somebody-answered l Saidi Network set sound there somebody;

@@ -16,12 +16,15 @@ use Rattle.annex.specs.Times.{minutesIn, isShort}
 use Rattle.annex.specs.Figures.{customers, halfMinutes, withStep}
 use Rattle.annex.specs.Simple.{simpleFigures}
 use Rattle.annex.specs.Annex.{njh, njhtjh2}
+use Rattle.annex.specs.Figure.{Off, Halves}
 use Rattle.marks.specs.Marks.{marked, marking, markedWith}
 use Rattle.verdict.specs.Verdict.{eventVerdict}
-use Rattle.record.specs.Verdict.{answerAt, verdictAt, recordAnswer, verdictOf}
+use Rattle.record.specs.Inside.{answerAt, verdictAt}
+use Rattle.record.specs.Verdict.{recordAnswer, verdictOf}
 use Rattle.ledger.specs.declared.Cell.{Cell}
+use Rattle.ledger.specs.declared.TypeRow.{TypeRow}
 use Rattle.ledger.specs.declared.Ledger.{Ledger}
-use Rattle.ledger.specs.Ledger.{noCell, added}
+use Rattle.ledger.specs.Ledger.{noCell, emptyRow, added}
 use Rattle.ledger.specs.Sound.{soundLedger}
 use Rattle.ledger.specs.Take.{answerOf, ledgerAfter, mapAfter}
 use Rattle.book.specs.Book.{takeRecord}
@@ -32,15 +35,18 @@ use Rattle.index.specs.declared.Level.the-variants.{NN, VN, VVN, Network}
 use Rattle.index.specs.declared.Index.{Index}
 use Rattle.index.specs.declared.Index.the-variants.{Saifi, Saidi, Caidi}
 use Rattle.index.specs.declared.Answer.the-variants.{Is}
-use Rattle.index.specs.Sums.{levelSum, totalOf, servedOf}
+use Rattle.index.specs.Sums.{levelSum, servedOf}
 use Rattle.index.specs.Index.{indexOf, exactly}
 use Rattle.worked.specs.Worked.{year, sheet105, example105}
-use Rattle.adding.specs.Parts.{typesIn, rest, eventCustomers, eventHalves, aloneOf, shareOf}
-use Rattle.adding.specs.Adding.{IndexAdds, LevelsWeigh, AddsUp, CaidiApart, Multiplies}
+use Rattle.adding.specs.Parts.{typesIn, rest, eventsHold, aloneOf, shareOf}
+use Rattle.adding.specs.Adding.{totalHeld, IndexAdds, LevelsWeigh, AddsUp, CaidiApart, Multiplies}
 use Rattle.adding.proofs.AddingTheorem.{accepted-book-adds-up}
 
 abbrev cell : ℕ → ℕ → Cell
 cell n h = record { customers = customers n; halves = halfMinutes h }
+
+abbrev row : Cell → Cell → Cell → TypeRow
+row nn vn vvn = record { levels = nn ∷ vn ∷ vvn ∷ [] }
 
 -- the year's ledger: three events of the types 11 and 13
 abbrev pub yearLedger : Ledger
@@ -49,14 +55,11 @@ yearLedger =
       sheet = record { there = true; year = 2009; totals = 1000 ∷ 10 ∷ 1 ∷ [] };
       events = 3;
       short = 0;
-      cells =
-          cell 2000 150000 ∷ cell 10 500 ∷ noCell ∷
-          noCell ∷ noCell ∷ noCell ∷
-          cell 1000 8000 ∷ cell 10 80 ∷ cell 1 8 ∷
-          noCell ∷ noCell ∷ noCell ∷
-          noCell ∷ noCell ∷ noCell ∷
-          noCell ∷ noCell ∷ noCell ∷
-          noCell ∷ noCell ∷ noCell ∷ [];
+      rows =
+          row (cell 2000 150000) (cell 10 500) noCell ∷
+          emptyRow ∷
+          row (cell 1000 8000) (cell 10 80) (cell 1 8) ∷
+          emptyRow ∷ emptyRow ∷ emptyRow ∷ emptyRow ∷ [];
     }
 
 -- every record is accepted, and each cell is as worked out by hand
@@ -75,11 +78,11 @@ year-adds-up = accepted-book-adds-up year year-accepted
 abbrev four : List Level
 four = NN ∷ VN ∷ VVN ∷ Network ∷ []
 
-pub year-customers : map (λ (h : Level). totalOf (bookLedger year .cells) h All .customers .0) four ≡ (3000 ∷ 20 ∷ 1 ∷ 3021 ∷ [])
+pub year-customers : map (λ (h : Level). totalHeld Off (bookLedger year) h All) four ≡ (3000 ∷ 20 ∷ 1 ∷ 3021 ∷ [])
 unfolding levelSum rowHeld
 year-customers = rw year-is
 
-pub year-halves : map (λ (h : Level). totalOf (bookLedger year .cells) h All .halves .0) four ≡ (158000 ∷ 580 ∷ 8 ∷ 158588 ∷ [])
+pub year-halves : map (λ (h : Level). totalHeld Halves (bookLedger year) h All) four ≡ (158000 ∷ 580 ∷ 8 ∷ 158588 ∷ [])
 unfolding levelSum rowHeld
 year-halves = rw year-is
 
@@ -88,12 +91,12 @@ year-served = rw year-is
 
 -- the network under 'std', the types 13 to 16, and 'all', from the year's events: customers, then half minutes
 pub year-events :
-    map (λ (ts : List ℕ). eventCustomers ts Network (eventsOf year)) (typesIn Std ∷ rest ∷ typesIn All ∷ []) ≡ (2010 ∷ 1011 ∷ 3021 ∷ [])
+    map (λ (ts : List ℕ). eventsHold Off ts Network (eventsOf year)) (typesIn Std ∷ rest ∷ typesIn All ∷ []) ≡ (2010 ∷ 1011 ∷ 3021 ∷ [])
 unfolding cutIn recordsOf isShort njh
 year-events = refl
 
 pub year-event-halves :
-    map (λ (ts : List ℕ). eventHalves ts Network (eventsOf year)) (typesIn Std ∷ rest ∷ typesIn All ∷ []) ≡ (150500 ∷ 8088 ∷ 158588 ∷ [])
+    map (λ (ts : List ℕ). eventsHold Halves ts Network (eventsOf year)) (typesIn Std ∷ rest ∷ typesIn All ∷ []) ≡ (150500 ∷ 8088 ∷ 158588 ∷ [])
 unfolding cutIn recordsOf isShort njhtjh2
 year-event-halves = refl
 

@@ -9,7 +9,9 @@ use Rattle.ratio.specs.Fraction.{plus, product, Same}
 use Rattle.codes.specs.declared.Set.{Set}
 use Rattle.codes.specs.declared.Set.the-variants.{All, Std}
 use Rattle.codes.specs.Codes.{types}
+use Rattle.annex.specs.Figure.{Figure, Off}
 use Rattle.ledger.specs.declared.Ledger.{Ledger}
+use Rattle.ledger.specs.Ledger.{held}
 use Rattle.sums.specs.Theorem.{eventsOf, bookLedger}
 use Rattle.index.specs.declared.Level.{Level}
 use Rattle.index.specs.declared.Level.the-variants.{Network}
@@ -18,33 +20,32 @@ use Rattle.index.specs.declared.Index.the-variants.{Saifi, Saidi, Caidi}
 use Rattle.index.specs.declared.Answer.the-variants.{Is, Refused}
 use Rattle.index.specs.Sums.{totalOf, servedOf}
 use Rattle.index.specs.Index.{formulaOf, indexOf}
-use Rattle.adding.specs.Parts.{overLevels, typesIn, rest, eachOnce, eventCustomers, eventHalves, together, aloneOf, plusAll, overEach, shareOf}
+use Rattle.adding.specs.Parts.{overLevels, typesIn, rest, eachOnce, eventsHold, typesHold, aloneOf, plusAll, overEach, shareOf}
 
--- the network's customers, half minutes and N are the levels' together
+-- the total of a figure: of the customers interrupted, and of the half customer-minutes
+abbrev pub totalHeld : Figure → Ledger → Level → Set → ℕ
+totalHeld x l level set = held x (totalOf (l .rows) level set)
+
+-- the network's figures and its N are the levels' together
 pub record LevelsAdd (l : Ledger) (set : Set) : Type 0 where
-  pub customers : totalOf (l .cells) Network set .customers .0 ≡ overLevels (λ (h : Level). totalOf (l .cells) h set .customers .0)
-  pub halves : totalOf (l .cells) Network set .halves .0 ≡ overLevels (λ (h : Level). totalOf (l .cells) h set .halves .0)
+  pub figures : (x : Figure) → totalHeld x l Network set ≡ overLevels (λ (h : Level). totalHeld x l h set)
   pub served : servedOf (l .sheet .totals) Network ≡ overLevels (servedOf (l .sheet .totals))
 
 -- under a set, a level's or the network's are those of the set's types together: under 'all', of the seven
-pub record TypesAdd (l : Ledger) (level : Level) (set : Set) : Type 0 where
-  pub customers : totalOf (l .cells) level set .customers .0 ≡ together l level (typesIn set) .customers .0
-  pub halves : totalOf (l .cells) level set .halves .0 ≡ together l level (typesIn set) .halves .0
+abbrev pub TypesAdd : Ledger → Level → Set → Type 0
+TypesAdd l level set = (x : Figure) → totalHeld x l level set ≡ typesHold x l level (typesIn set)
 
 -- those under 'std' and those of the types 13 to 16 are those under 'all'
-pub record RestAdds (l : Ledger) (level : Level) : Type 0 where
-  pub customers : totalOf (l .cells) level Std .customers .0 + together l level rest .customers .0 ≡ totalOf (l .cells) level All .customers .0
-  pub halves : totalOf (l .cells) level Std .halves .0 + together l level rest .halves .0 ≡ totalOf (l .cells) level All .halves .0
+abbrev pub RestAdds : Ledger → Level → Type 0
+RestAdds l level = (x : Figure) → totalHeld x l level Std + typesHold x l level rest ≡ totalHeld x l level All
 
 -- types together are 003's sums over the book's events of these types
-pub record EventsAdd (book : List ℕ) (level : Level) (ts : List ℕ) : Type 0 where
-  pub customers : together (bookLedger book) level ts .customers .0 ≡ eventCustomers ts level (eventsOf book)
-  pub halves : together (bookLedger book) level ts .halves .0 ≡ eventHalves ts level (eventsOf book)
+abbrev pub EventsAdd : List ℕ → Level → List ℕ → Type 0
+EventsAdd book level ts = (x : Figure) → typesHold x (bookLedger book) level ts ≡ eventsHold x ts level (eventsOf book)
 
 -- and so are the sums that an index is made of
-pub record TotalsAre (book : List ℕ) (level : Level) (set : Set) : Type 0 where
-  pub customers : totalOf (bookLedger book .cells) level set .customers .0 ≡ eventCustomers (typesIn set) level (eventsOf book)
-  pub halves : totalOf (bookLedger book .cells) level set .halves .0 ≡ eventHalves (typesIn set) level (eventsOf book)
+abbrev pub TotalsAre : List ℕ → Level → Set → Type 0
+TotalsAre book level set = (x : Figure) → totalHeld x (bookLedger book) level set ≡ eventsHold x (typesIn set) level (eventsOf book)
 
 -- the index under 'all' is the index under 'std' and that of the types 13 to 16 alone, and it is those of the seven types, each alone: exact fractions
 -- over one N, which all exist
@@ -59,9 +60,8 @@ pub record IndexAdds (l : Ledger) (index : Index) (level : Level) : Type 0 where
   pub types-add : Same all (plusAll (map (λ (typ : ℕ). aloneOf l index level (typ ∷ [])) types))
 
 -- where a level, or the network, has no customers, none were interrupted
-pub record NobodyOff (l : Ledger) (level : Level) (set : Set) : Type 0 where
-  pub customers : totalOf (l .cells) level set .customers .0 ≡ 0
-  pub halves : totalOf (l .cells) level set .halves .0 ≡ 0
+abbrev pub NobodyOff : Ledger → Level → Set → Type 0
+NobodyOff l level set = (x : Figure) → totalHeld x l level set ≡ 0
 
 -- the network's index times the network's N is the sum over the levels of the level's index times the level's N, as exact fractions; the network has the
 -- index, and so has each level with customers
@@ -107,12 +107,12 @@ pub data Identity (l : Ledger) (level : Level) (set : Set) : Type 0 where
       Identity l level set
   none-interrupted :
       l .sheet .there ≡ true →
-      totalOf (l .cells) level set .customers .0 ≡ 0 →
+      totalHeld Off l level set ≡ 0 →
       indexOf l Caidi level set ≡ Refused 17 →
       Identity l level set
   multiplied :
       (servedOf (l .sheet .totals) level ≡ 0 → ⊥) →
-      (totalOf (l .cells) level set .customers .0 ≡ 0 → ⊥) →
+      (totalHeld Off l level set ≡ 0 → ⊥) →
       (saifi saidi caidi : Fraction) →
       indexOf l Saifi level set ≡ Is saifi →
       indexOf l Saidi level set ≡ Is saidi →

@@ -10,12 +10,12 @@ use Rattle.ratio.specs.Fraction.{whole, plus, times}
 use Rattle.codes.specs.declared.Set.{Set}
 use Rattle.codes.specs.declared.Set.the-variants.{All, Std, Unnamed}
 use Rattle.codes.specs.Codes.{types, compliance, rows, rowOf}
-use Rattle.annex.specs.Figures.{customers, halfMinutes}
-use Rattle.annex.specs.Annex.{njh, njhtjh2, shortEvent}
+use Rattle.annex.specs.Annex.{shortEvent}
+use Rattle.annex.specs.Figure.{Figure, given}
 use Rattle.fields.specs.Fields.{headIn}
 use Rattle.ledger.specs.declared.Cell.{Cell}
 use Rattle.ledger.specs.declared.Ledger.{Ledger}
-use Rattle.ledger.specs.Ledger.{cellOf}
+use Rattle.ledger.specs.Ledger.{heldIn, cellBy}
 use Rattle.sums.specs.Accepted.{eventIn}
 use Rattle.index.specs.declared.Level.{Level}
 use Rattle.index.specs.declared.Level.the-variants.{NN, VN, VVN, Network}
@@ -50,7 +50,7 @@ typesIn Std = compliance
 typesIn Unnamed = types
 
 abbrev pub rest : List ℕ
-rest = 13 ∷ 14 ∷ 15 ∷ 16 ∷ []
+rest = keep (λ (typ : ℕ). not (listed typ compliance)) types
 
 -- each is a type of 9.2, and none stands there twice
 abbrev pub eachOnce : List ℕ → Bool
@@ -61,25 +61,19 @@ eachOnce (typ ∷ ts) = ltb (rowOf typ) rows && not (listed typ ts) && eachOnce 
 abbrev pub counted : List ℕ → List (List ℕ) → List (List ℕ)
 counted ts events = keep (λ (s : List ℕ). listed (headIn s .typ) ts && not (shortEvent (eventIn s))) events
 
--- Σ_h Σ_j n_jh, over the counted events j of some types
-abbrev pub eventCustomers : List ℕ → Level → List (List ℕ) → ℕ
-eventCustomers ts level events = across level (λ (h : Level). sum (map (λ (s : List ℕ). njh (placeOf h) (eventIn s)) (counted ts events)))
+-- of a figure, Σ_h Σ_j over the counted events j of some types: Σ_h Σ_j n_jh, and 2 · Σ_h Σ_j n_jh · t_jh
+abbrev pub eventsHold : Figure → List ℕ → Level → List (List ℕ) → ℕ
+eventsHold x ts level events = across level (λ (h : Level). sum (map (λ (s : List ℕ). given x (placeOf h) (eventIn s)) (counted ts events)))
 
--- 2 · Σ_h Σ_j n_jh · t_jh, over the same events
-abbrev pub eventHalves : List ℕ → Level → List (List ℕ) → ℕ
-eventHalves ts level events = across level (λ (h : Level). sum (map (λ (s : List ℕ). njhtjh2 (placeOf h) (eventIn s)) (counted ts events)))
+-- what a ledger holds of a figure for a type, and for some types together, of a level or of the network
+abbrev pub typeHolds : Figure → Ledger → Level → ℕ → ℕ
+typeHolds x l level typ = across level (λ (h : Level). heldIn x l (rowOf typ) (placeOf h))
 
--- a type's customers and half minutes in a ledger, of a level or of the network
-abbrev pub typeCustomers : Ledger → Level → ℕ → ℕ
-typeCustomers l level typ = across level (λ (h : Level). cellOf l (rowOf typ) (placeOf h) .customers .0)
+abbrev pub typesHold : Figure → Ledger → Level → List ℕ → ℕ
+typesHold x l level ts = sum (map (typeHolds x l level) ts)
 
-abbrev pub typeHalves : Ledger → Level → ℕ → ℕ
-typeHalves l level typ = across level (λ (h : Level). cellOf l (rowOf typ) (placeOf h) .halves .0)
-
--- some types together, customers to customers and half minutes to half minutes
 abbrev pub together : Ledger → Level → List ℕ → Cell
-together l level ts =
-    record { customers = customers (sum (map (typeCustomers l level) ts)); halves = halfMinutes (sum (map (typeHalves l level) ts)) }
+together l level ts = cellBy (λ x. typesHold x l level ts)
 
 -- 01's formula of an index for some types alone; N is that of the level or the network, whatever the types
 abbrev pub aloneOf : Ledger → Index → Level → List ℕ → Fraction

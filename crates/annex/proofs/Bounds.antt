@@ -6,21 +6,23 @@ use lib.ListN.{getD}
 use native.Mathlib.Nat.{mul-le-mul-right}
 use native.Mathlib.Omega.{arith}
 use Rattle.base.specs.Lists.{largest, All}
-use Rattle.annex.specs.declared.Figures.{Figures}
+use Rattle.codes.specs.Codes.{levels}
+use Rattle.annex.specs.declared.Course.{Course}
 use Rattle.annex.specs.declared.Simple.{Simple}
 use Rattle.annex.specs.declared.Step.{Step}
-use Rattle.annex.specs.Figures.{nothing, customersAt, halvesAt, withStep, Room}
+use Rattle.annex.specs.Figures.{halvesAt, withStep}
 use Rattle.annex.specs.Simple.{simpleFigures, InOrder}
-use Rattle.annex.specs.Stepped.{steppedFigures}
+use Rattle.annex.specs.Stepped.{begun, coursed, steppedFigures}
 use Rattle.annex.specs.Annex.{countsOf, weighed}
-use Rattle.annex.specs.Bounds.{Few, Timely, Within, Ordered}
+use Rattle.annex.specs.Figure.{Off, Halves}
+use Rattle.annex.specs.Inside.{Few, Room, Timely, Ready, Within, Ordered}
 use Rattle.annex.proofs.FoldLaws.{each-level, simple-customers, simple-halves, stepped-customers, stepped-halves}
 
-pub few-at : {m : ℕ} {n : List ℕ} → Few m n → (h : ℕ) → h < 3 → getD n h 0 ≤ m
+pub few-at : {m : ℕ} {n : List ℕ} → Few m n → (h : ℕ) → h < levels → getD n h 0 ≤ m
 few-at few = each-level _ (few .nn) (few .vn) (few .vvn)
 
-pub timely-nothing : (last : ℕ) → Timely nothing last
-timely-nothing last = record { nn = omega arith; vn = omega arith; vvn = omega arith }
+pub timely-begun : (t0 : ℕ) → Timely (begun t0)
+timely-begun t0 = record { nn = omega arith; vn = omega arith; vvn = omega arith }
 
 -- one level of a step
 step-timely : (h n before time : ℕ) → h ≤ 8589934590 * before → n ≤ 4294967295 → before ≤ time → h + 2 * n * (time - before) ≤ 8589934590 * time
@@ -28,25 +30,22 @@ step-timely h n before time p q r =
     let k : 2 * n * (time - before) ≤ 8589934590 * (time - before) = mul-le-mul-right (time - before) (omega arith) in
     omega arith
 
-pub timely-step :
-    (f : Figures) (counts : List ℕ) (before time : ℕ) →
-    Timely f before →
-    Few 4294967295 counts →
-    before ≤ time →
-    Timely (withStep f counts (time - before)) time
-unfolding withStep
-timely-step f counts before time t few r =
-    record {
-      nn = step-timely _ _ before time (t .nn) (few .nn) r;
-      vn = step-timely _ _ before time (t .vn) (few .vn) r;
-      vvn = step-timely _ _ before time (t .vvn) (few .vvn) r;
-    }
+module _ (c : Course) (s : Step) (t : Timely c) (order : c .last ≤ s .time) where
+  pub timely-step : Few 4294967295 (s .counts) → Timely (coursed c s)
+  unfolding withStep
+  timely-step few =
+      record {
+        nn = step-timely _ _ (c .last) (s .time) (t .nn) (few .nn) order;
+        vn = step-timely _ _ (c .last) (s .time) (t .vn) (few .vn) order;
+        vvn = step-timely _ _ (c .last) (s .time) (t .vvn) (few .vvn) order;
+      }
 
-pub timely-room : (f : Figures) (last : ℕ) → Timely f last → last ≤ 600000 → Room f
-timely-room f last t p = record { nn = omega arith; vn = omega arith; vvn = omega arith }
+  pub timely-ready : s .time ≤ 600000 → Ready c s
+  timely-ready ends = record { room = record { nn = omega arith; vn = omega arith; vvn = omega arith }; order = order; ends = ends }
 
-pub simple-within : (e : Simple) → InOrder e → Few 10000000 (e .n1) → Few 10000000 (e .n2) → (h : ℕ) → h < 3 → Within (simpleFigures e) h
-simple-within e o few1 few2 h l =
+pub simple-within : (e : Simple) → InOrder e → Few 10000000 (e .n1) → Few 10000000 (e .n2) → (h : ℕ) → h < levels → Within (simpleFigures e) h
+simple-within e o few1 few2 h l Off = omega (arith, simple-customers e h l, few-at few1 h l)
+simple-within e o few1 few2 h l Halves =
     let a = getD (e .n1) h 0 in
     let b = getD (e .n2) h 0 in
     let p : a ≤ 10000000 = few-at few1 h l in
@@ -54,9 +53,9 @@ simple-within e o few1 few2 h l =
     let one : 2 * a * (e .t1 - e .t0) ≤ 20000000 * (e .t1 - e .t0) = mul-le-mul-right (e .t1 - e .t0) (omega arith) in
     let two : (a + b) * (e .t2 - e .t1) ≤ 20000000 * (e .t2 - e .t1) = mul-le-mul-right (e .t2 - e .t1) (omega arith) in
     let three : 2 * b * (e .t3 - e .t2) ≤ 20000000 * (e .t3 - e .t2) = mul-le-mul-right (e .t3 - e .t2) (omega arith) in
-    (omega (arith, simple-customers e h l), omega (arith, simple-halves e h l))
+    omega (arith, simple-halves e h l)
 
-module _ (h : ℕ) (l : h < 3) where
+module _ (h : ℕ) (l : h < levels) where
   largest-within : (ss : List Step) → All (λ (s : Step). Few 10000000 (s .counts)) ss → largest (countsOf h ss) ≤ 10000000
   largest-within [] few = omega arith
   largest-within (s ∷ ss) few = omega (arith, few-at (few .0) h l, largest-within ss (few .1))
@@ -78,9 +77,7 @@ pub stepped-within :
     Ordered t0 ss →
     All (λ (s : Step). Few 10000000 (s .counts)) ss →
     (h : ℕ) →
-    h < 3 →
+    h < levels →
     Within (steppedFigures t0 ss) h
-stepped-within t0 ss p o few h l = (
-  omega (arith, stepped-customers h l t0 ss, largest-within h l ss few),
-  omega (arith, stepped-halves h l t0 ss, weighed-within h l t0 ss p o few),
-)
+stepped-within t0 ss p o few h l Off = omega (arith, stepped-customers h l t0 ss, largest-within h l ss few)
+stepped-within t0 ss p o few h l Halves = omega (arith, stepped-halves h l t0 ss, weighed-within h l t0 ss p o few)

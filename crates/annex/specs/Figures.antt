@@ -1,5 +1,5 @@
 -- What an event adds, level by level, and how one step changes it (01, "What one event adds", Stepped).
-use Prim.Native.Nat.{ℕ, _+_, _*_, _≤_, max}
+use Prim.Native.Nat.{ℕ, _+_, _*_, max}
 use mathlib.Core.List.{List, [], _∷_}
 use lib.ListN.{getD}
 use Rattle.annex.specs.declared.Customers.{Customers}
@@ -47,9 +47,3 @@ withStep f counts minutes =
           longerOf (getD (f .halves) 1 (halfMinutes 0)) (getD counts 1 0) minutes ∷
           longerOf (getD (f .halves) 2 (halfMinutes 0)) (getD counts 2 0) minutes ∷ [];
     }
-
--- so few half minutes that a step more fits a 64-bit number
-pub record Room (f : Figures) : Type 0 where
-  pub nn : halvesAt f 0 ≤ 1000000000000000000
-  pub vn : halvesAt f 1 ≤ 1000000000000000000
-  pub vvn : halvesAt f 2 ≤ 1000000000000000000

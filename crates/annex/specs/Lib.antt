@@ -3,5 +3,6 @@ pub mod Figures
 pub mod Simple
 pub mod Stepped
 pub mod Annex
+pub mod Figure
 pub mod Fraction
-pub mod Bounds
+pub mod Inside

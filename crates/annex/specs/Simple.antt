@@ -2,6 +2,7 @@
 use Prim.Native.Nat.{ℕ, _+_, _*_, _-_, _≤_}
 use mathlib.Core.List.{List, [], _∷_}
 use lib.ListN.{getD}
+use Rattle.codes.specs.Ranges.{latest}
 use Rattle.annex.specs.declared.HalfMinutes.{HalfMinutes}
 use Rattle.annex.specs.declared.Figures.{Figures}
 use Rattle.annex.specs.declared.Simple.{Simple}
@@ -27,4 +28,4 @@ pub record InOrder (e : Simple) : Type 0 where
   pub one : e .t0 ≤ e .t1
   pub two : e .t1 ≤ e .t2
   pub three : e .t2 ≤ e .t3
-  pub last : e .t3 ≤ 600000
+  pub last : e .t3 ≤ latest

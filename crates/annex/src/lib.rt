@@ -1,9 +1,17 @@
 // What one event adds by the annex's formulas: customers and half customer-minutes for each level, the short events, and the year's length.
 ghost use mathlib.Core.Path.{_≡_};
 ghost use Prim.Native.Nat.{_+_, _*_, _≤_, max};
-ghost use Rattle.annex.specs.Figures.{nothing, largerOf, longerOf, withStep, Room};
+ghost use Rattle.codes.specs.Ranges.{latest};
+ghost use Rattle.annex.specs.Figures.{nothing, largerOf, longerOf, withStep};
+ghost use Rattle.annex.specs.Inside.{Room, Ready};
 ghost use Rattle.annex.specs.Simple.{halvesOf, simpleFigures, InOrder};
+ghost use Rattle.annex.specs.Stepped.{begun, coursed};
 ghost use Rattle.annex.specs.Times.{minutesIn, isShort};
+
+// The most that one event gives a level: customers, and half customer-minutes.
+pub const MOST_OFF: u64 = 10000000;
+
+pub const MOST_HALVES: u64 = 12000000000000;
 
 // Customers interrupted.
 #[repr(C)]
@@ -24,6 +32,12 @@ pub struct Figures {
 pub struct Step {
     pub time: u32,
     pub counts: [u32; 3],
+}
+
+// A stepped event so far: the last step's time (T0 before the first), and the figures that its steps fold to.
+pub struct Course {
+    pub last: u32,
+    pub figures: Figures,
 }
 
 // A simple event: its times, and the customers of each level interrupted at T0 and at T2.
@@ -64,7 +78,7 @@ fn larger(c: Customers, n: u32) -> Customers
 
 // So many customers off for so many minutes, in halves.
 fn weigh(n: u64, minutes: u32) -> u64
-    requires { ⌜ (n ≤ 8589934590) × (minutes ≤ 600000) ⌝ }
+    requires { ⌜ (n ≤ 8589934590) × (minutes ≤ latest) ⌝ }
     ensures { λ r. ⌜ (r ≡ n * minutes) × (r ≤ 8589934590 * minutes) ⌝ }
 {
     n * minutes as u64
@@ -72,7 +86,7 @@ fn weigh(n: u64, minutes: u32) -> u64
 
 // The half customer-minutes with those of one step more.
 fn longer(h: HalfMinutes, n: u32, minutes: u32) -> HalfMinutes
-    requires { ⌜ (h .0 ≤ 1000000000000000000) × (minutes ≤ 600000) ⌝ }
+    requires { ⌜ (h .0 ≤ 1000000000000000000) × (minutes ≤ latest) ⌝ }
     ensures { λ r. ⌜ r ≡ longerOf h n minutes ⌝ }
 {
     HalfMinutes(h.0 + weigh(2 * (n as u64), minutes))
@@ -88,9 +102,9 @@ impl Figures {
         }
     }
 
-    // The step fold: the figures with a step whose counts held for so many minutes.
-    pub fn with_step(self, counts: [u32; 3], minutes: u32) -> Figures
-        requires { ⌜ Room self × (minutes ≤ 600000) ⌝ }
+    // The figures with a step whose counts held for so many minutes.
+    fn with_step(self, counts: [u32; 3], minutes: u32) -> Figures
+        requires { ⌜ Room self × (minutes ≤ latest) ⌝ }
         ensures { λ r. ⌜ r ≡ withStep self counts minutes ⌝ }
     {
         let c = self.customers;
@@ -106,6 +120,31 @@ impl Figures {
                 longer(h[1], counts[1], minutes),
                 longer(h[2], counts[2], minutes),
             ],
+        }
+    }
+}
+
+impl Course {
+    // Before the first step.
+    pub fn begin(t0: u32) -> Course
+        ensures { λ r. ⌜ r ≡ begun t0 ⌝ }
+    {
+        Course {
+            last: t0,
+            figures: Figures::none(),
+        }
+    }
+
+    // The step fold: one step more, whose counts held since the last time.
+    pub fn with(self, step: Step) -> Course
+        requires { ⌜ Ready self step ⌝ }
+        ensures { λ r. ⌜ r ≡ coursed self step ⌝ }
+    {
+        let f = self.figures;
+        let counts = step.counts;
+        Course {
+            last: step.time,
+            figures: f.with_step(counts, step.time - self.last),
         }
     }
 }

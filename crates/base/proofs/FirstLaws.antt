@@ -1,15 +1,14 @@
 -- The first rule that applies. Assumes nothing.
 use Prim.Native.Nat.{ℕ, _<_, _≤_}
-use mathlib.Core.Path.{_≡_, refl, sym, _∙_, ap, subst}
-use mathlib.Core.Logic.{_≢_, _↔_}
+use mathlib.Core.Path.{_≡_, refl, sym, _∙_, ap}
+use mathlib.Core.Logic.{_↔_}
 use mathlib.Core.List.{List, [], _∷_, map}
-use mathlib.Core.Bool.{Bool, true, false, cond, _||_, or-true, false≢true, true≢false}
-use lib.Dec.{T, ltb, eqb, ltb→lt}
+use mathlib.Core.Bool.{Bool, true, false, cond, _||_, or-true}
+use lib.Dec.{eqb, ltb→lt}
 use native.Mathlib.Omega.{arith}
 use borrow.Author.Tests.{eqb-true, eqb-false, eq-eqb, ne-eqb}
-use Rattle.base.specs.First.{Rule, first, Clear, Foremost, Rising}
+use Rattle.base.specs.First.{Rule, first, ruleOf, NoRule, Clear, Foremost, Rising}
 use Rattle.base.specs.Lists.{listed}
-use Rattle.base.proofs.TestLaws.{Tested, holds, fails, test}
 
 one : (n : ℕ) (b : Bool) (rest k : ℕ) → k < n → cond b n rest ≡ 0 → (b ≡ false) × (rest ≡ 0)
 one n true rest k l e = absurd (let z : n ≡ 0 = e in omega arith)
@@ -36,7 +35,7 @@ above k n (q ∷ rs) r e z = go (ltb→lt k (q .0) (r .0)) (λ m. above (q .0) n
 
 -- exactly then: the answer is n just where rule n applies and no rule before it does
 module _ (n : ℕ) where
-  pub exactly : (k : ℕ) (rs : List Rule) → Rising k rs → first rs ≡ n → Foremost n rs
+  exactly : (k : ℕ) (rs : List Rule) → Rising k rs → first rs ≡ n → Foremost n rs
   exactly k [] r e = sym e
   exactly k (q ∷ rs) r e = go (eqb (q .0) n) refl (q .1) refl (exactly (q .0) rs (r .1))
     where
@@ -60,14 +59,53 @@ module _ (n : ℕ) where
       go true a g ih = ap (λ t. cond t (q .0) (first rs)) g ∙ eqb-true (q .0) n a
       go false a g ih = ap (λ t. cond t (q .0) (first rs)) (g .0) ∙ ih (g .1)
 
--- no rule applies, the last one neither: `Clear` of a list that is not empty, written out
-abbrev pub NoneOf : Rule → List Rule → Type 0
-NoneOf r [] = r .1 ≡ false
-NoneOf r (q ∷ rs) = (r .1 ≡ false) × NoneOf q rs
+pub exactly-then : (n : ℕ) (rs : List Rule) → Rising 0 rs → (first rs ≡ n) ↔ Foremost n rs
+exactly-then n rs r = (exactly n 0 rs r, then n rs)
 
-pub none-of : (r : Rule) (rs : List Rule) → Clear (r ∷ rs) ↔ NoneOf r rs
-none-of r [] = (λ c. c .0, λ c. (c, tt))
-none-of r (q ∷ rs) = (λ c. (c .0, none-of q rs .0 (c .1)), λ c. (c .0, none-of q rs .1 (c .1)))
+-- where no rule applies, none of any number does
+pub clear-at : (rs : List Rule) → Clear rs → NoRule rs
+clear-at [] c n = refl
+clear-at (r ∷ rs) c n = go (eqb (r .0) n) (clear-at rs (c .1) n)
+  where
+    go : (t : Bool) → ruleOf n rs ≡ false → cond t (r .1) (ruleOf n rs) ≡ false
+    go true e = c .0
+    go false e = e
+
+-- rules that rise from a number on have none at or below it
+none-below : (k n : ℕ) (rs : List Rule) → Rising k rs → n ≤ k → ruleOf n rs ≡ false
+none-below k n [] r l = refl
+none-below k n (q ∷ rs) r l =
+    let above : k < q .0 = ltb→lt k (q .0) (r .0) in
+    ap (λ t. cond t (q .1) (ruleOf n rs)) (ne-eqb (q .0) n (λ e. omega arith)) ∙ none-below (q .0) n rs (r .1) (omega arith)
+
+-- where a number is answered, it applies, and none below it does
+module _ (n : ℕ) where
+  pub answered-rule : (rs : List Rule) → first rs ≡ n → (n ≡ 0 → ⊥) → (k : ℕ) → Rising k rs → ruleOf n rs ≡ true
+  answered-rule [] e z k r = absurd (z (sym e))
+  answered-rule (q ∷ rs) e z k r = go (λ f. answered-rule rs f z (q .0) (r .1)) (q .1) refl (eqb (q .0) n) refl
+    where
+      go : (first rs ≡ n → ruleOf n rs ≡ true) → (t : Bool) → q .1 ≡ t → (s : Bool) → eqb (q .0) n ≡ s → cond s (q .1) (ruleOf n rs) ≡ true
+      go ih true b true a = b
+      go ih true b false a = absurd (eqb-false (q .0) n a (ap (λ t. cond t (q .0) (first rs)) (sym b) ∙ e))
+      go ih false b true a =
+          let m : first rs ≡ n = ap (λ t. cond t (q .0) (first rs)) (sym b) ∙ e in
+          let u : q .0 < n = above (q .0) n rs (r .1) m z in
+          absurd (omega (arith, u, eqb-true (q .0) n a))
+      go ih false b false a = ih (ap (λ t. cond t (q .0) (first rs)) (sym b) ∙ e)
+
+  pub passed-rule : (i : ℕ) → i < n → (rs : List Rule) → first rs ≡ n → (k : ℕ) → Rising k rs → ruleOf i rs ≡ false
+  passed-rule i l [] e k r = refl
+  passed-rule i l (q ∷ rs) e k r = go (λ f. passed-rule i l rs f (q .0) (r .1)) (q .1) refl (eqb (q .0) i) refl
+    where
+      go : (first rs ≡ n → ruleOf i rs ≡ false) → (t : Bool) → q .1 ≡ t → (s : Bool) → eqb (q .0) i ≡ s → cond s (q .1) (ruleOf i rs) ≡ false
+      go ih true b true a =
+          let m : q .0 ≡ n = ap (λ t. cond t (q .0) (first rs)) (sym b) ∙ e in
+          absurd (omega (arith, m, eqb-true (q .0) i a))
+      go ih true b false a =
+          let m : q .0 ≡ n = ap (λ t. cond t (q .0) (first rs)) (sym b) ∙ e in
+          none-below (q .0) i rs (r .1) (omega arith)
+      go ih false b true a = b
+      go ih false b false a = ih (ap (λ t. cond t (q .0) (first rs)) (sym b) ∙ e)
 
 -- the first number is 0 or a number of the list
 pub first-listed : (rs : List Rule) → (eqb (first rs) 0 || listed (first rs) (map (λ (r : Rule). r .0) rs)) ≡ true

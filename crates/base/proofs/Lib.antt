@@ -4,3 +4,5 @@ pub mod ChainLaws
 pub mod ListLaws
 pub mod OneOutcome
 pub mod PlaceLaws
+pub mod SumLaws
+pub mod PermLaws

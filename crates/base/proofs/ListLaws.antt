@@ -1,15 +1,16 @@
 -- Tests and lookups over a list, element by element, as a loop meets them. Assumes nothing.
 use Prim.Native.Nat.{ℕ, zero, suc, _+_, _<_, _≤_}
 use mathlib.Core.Path.{_≡_, refl, ap, _∙_, sym}
-use mathlib.Core.Bool.{Bool, true, false, _&&_, _||_, or-assoc, or-false, and-assoc, and-true}
+use mathlib.Core.Bool.{Bool, true, false, _&&_, _||_, cond, or-assoc, or-false, and-assoc, and-true}
 use mathlib.Core.List.{List, [], _∷_, _++_}
-use lib.ListN.{length, getD, set, drop, drop-of-length-le}
+use lib.ListN.{length, getD, set, drop, replicate, drop-of-length-le}
 use lib.Seq.{drop-cons}
-use lib.Dec.{eqb}
+use lib.Dec.{eqb, ltb}
 use native.Mathlib.Numerals.{add-one}
-use borrow.Author.Tests.{eq-eqb, ne-eqb}
+use native.Mathlib.Omega.{arith}
+use borrow.Author.Tests.{eq-eqb, ne-eqb, ltb-true}
 use native.Mathlib.Nat.{le-of-suc-le-suc, not-suc-le-zero}
-use Rattle.base.specs.Lists.{every, listed, All}
+use Rattle.base.specs.Lists.{every, any, listed, keep, All, Bytes}
 use Rattle.base.proofs.TestLaws.{and-left, and-right, and-both}
 
 -- a test of every element that has seen the first i, and goes on
@@ -30,6 +31,12 @@ pub every-set : {A : Type 0} (f : A → Bool) (xs : List A) (i : ℕ) (a : A) �
 every-set f [] i a e h = refl
 every-set f (x ∷ xs) zero a e h = and-both (f a) (every f xs) h (and-right (f x) (every f xs) e)
 every-set f (x ∷ xs) (suc i) a e h = and-both (f x) (every f (set xs i a)) (and-left (f x) (every f xs) e) (every-set f xs i a (and-right (f x) (every f xs) e) h)
+
+-- a test of every element, also of what is read past the end
+pub every-or-default : {A : Type 0} (f : A → Bool) (d : A) (xs : List A) → every f xs ≡ true → f d ≡ true → (i : ℕ) → f (getD xs i d) ≡ true
+every-or-default f d [] e h i = h
+every-or-default f d (x ∷ xs) e h zero = and-left (f x) (every f xs) e
+every-or-default f d (x ∷ xs) e h (suc i) = every-or-default f d xs (and-right (f x) (every f xs) e) h i
 
 -- a weaker test passes too
 pub every-weaker : {A : Type 0} (f g : A → Bool) → ((x : A) → f x ≡ true → g x ≡ true) → (xs : List A) → every f xs ≡ true → every g xs ≡ true
@@ -67,3 +74,77 @@ module _ {A : Type 0} (P : A → Type 0) where
   pub all-back : (xs ys : List A) → All P (xs ++ ys) → All P ys
   all-back [] ys a = a
   all-back (x ∷ xs) ys a = all-back xs ys (a .1)
+
+  pub all-alike : (n : ℕ) (x : A) → P x → All P (replicate n x)
+  all-alike zero x p = tt
+  all-alike (suc n) x p = (p, all-alike n x p)
+
+-- some element of two lists
+pub any-append : {A : Type 0} (f : A → Bool) (xs ys : List A) → any f (xs ++ ys) ≡ (any f xs || any f ys)
+any-append f [] ys = refl
+any-append f (x ∷ xs) ys = ap (λ (t : Bool). f x || t) (any-append f xs ys) ∙ sym (or-assoc (f x) (any f xs) (any f ys))
+
+-- ---- those that are kept
+
+-- what holds of each holds of those that are kept
+pub all-kept : {A : Type 0} (P : A → Type 0) (f : A → Bool) (xs : List A) → All P xs → All P (keep f xs)
+all-kept P f [] a = tt
+all-kept P f (x ∷ xs) a = go (f x) (all-kept P f xs (a .1))
+  where
+    go : (t : Bool) → All P (keep f xs) → All P (cond t (x ∷ keep f xs) (keep f xs))
+    go true h = (a .0, h)
+    go false h = h
+
+module _ {A : Type 0} (f : A → Bool) where
+  pub keep-append : (xs ys : List A) → keep f (xs ++ ys) ≡ keep f xs ++ keep f ys
+  keep-append [] ys = refl
+  keep-append (x ∷ xs) ys = go (f x) (keep-append xs ys)
+    where
+      go :
+          (t : Bool) →
+          keep f (xs ++ ys) ≡ keep f xs ++ keep f ys →
+          cond t (x ∷ keep f (xs ++ ys)) (keep f (xs ++ ys)) ≡ cond t (x ∷ keep f xs) (keep f xs) ++ keep f ys
+      go true h = ap (λ (zs : List A). x ∷ zs) h
+      go false h = h
+
+  -- those that pass pass again
+  pub keep-again : (xs : List A) → keep f (keep f xs) ≡ keep f xs
+  keep-again [] = refl
+  keep-again (x ∷ xs) = go (f x) refl (keep-again xs)
+    where
+      go : (t : Bool) → f x ≡ t → keep f (keep f xs) ≡ keep f xs → keep f (cond t (x ∷ keep f xs) (keep f xs)) ≡ cond t (x ∷ keep f xs) (keep f xs)
+      go true e h = ap (λ (t : Bool). cond t (x ∷ keep f (keep f xs)) (keep f (keep f xs))) e ∙ ap (λ (zs : List A). x ∷ zs) h
+      go false e h = h
+
+-- two tests that agree keep the same
+pub keep-alike : {A : Type 0} (f g : A → Bool) → ((x : A) → f x ≡ g x) → (xs : List A) → keep f xs ≡ keep g xs
+keep-alike f g e [] = refl
+keep-alike f g e (x ∷ xs) = λ i. cond (e x i) (x ∷ keep-alike f g e xs i) (keep-alike f g e xs i)
+
+-- ---- bytes
+
+pub byte-at : (s : List ℕ) → Bytes s → (i : ℕ) → getD s i 0 < 256
+byte-at [] b i = omega arith
+byte-at (x ∷ s) b zero = b .0
+byte-at (x ∷ s) b (suc i) = byte-at s (b .1) i
+
+-- by a test, as of bytes that are written out
+pub bytes-by-test : (s : List ℕ) → every (λ b. ltb b 256) s ≡ true → Bytes s
+bytes-by-test [] e = tt
+bytes-by-test (b ∷ s) e =
+    let f : ℕ → Bool = λ x. ltb x 256 in
+    (ltb-true b 256 (and-left (f b) (every f s) e), bytes-by-test s (and-right (f b) (every f s) e))
+
+pub all-bytes-by-test : (ss : List (List ℕ)) → every (λ s. every (λ b. ltb b 256) s) ss ≡ true → All Bytes ss
+all-bytes-by-test [] e = tt
+all-bytes-by-test (s ∷ ss) e =
+    let f : List ℕ → Bool = λ x. every (λ b. ltb b 256) x in
+    (bytes-by-test s (and-left (f s) (every f ss) e), all-bytes-by-test ss (and-right (f s) (every f ss) e))
+
+-- a list of three is its three elements
+pub three : {A : Type 0} (d : A) (xs : List A) → length xs ≡ 3 → getD xs 0 d ∷ getD xs 1 d ∷ getD xs 2 d ∷ [] ≡ xs
+three d [] e = absurd (omega arith)
+three d (a ∷ []) e = absurd (omega arith)
+three d (a ∷ b ∷ []) e = absurd (omega arith)
+three d (a ∷ b ∷ c ∷ []) e = refl
+three d (a ∷ b ∷ c ∷ x ∷ xs) e = absurd (omega arith)

@@ -14,7 +14,16 @@ abbrev pub first : List Rule → ℕ
 first [] = 0
 first (r ∷ rs) = cond (r .1) (r .0) (first rs)
 
--- no rule applies
+-- whether what a number stands for applies, among the rules
+abbrev pub ruleOf : ℕ → List Rule → Bool
+ruleOf n [] = false
+ruleOf n (r ∷ rs) = cond (eqb (r .0) n) (r .1) (ruleOf n rs)
+
+-- no rule applies, of whatever number
+abbrev pub NoRule : List Rule → Type 0
+NoRule rs = (n : ℕ) → ruleOf n rs ≡ false
+
+-- the same, rule by rule
 abbrev pub Clear : List Rule → Type 0
 Clear [] = Unit {0}
 Clear (r ∷ rs) = (r .1 ≡ false) × Clear rs

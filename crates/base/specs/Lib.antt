@@ -1,2 +1,3 @@
 pub mod First
 pub mod Lists
+pub mod Perm

@@ -1,5 +1,5 @@
 -- Tests, sums and choices over lists.
-use Prim.Native.Nat.{ℕ, zero, suc, _+_, max}
+use Prim.Native.Nat.{ℕ, suc, _+_, _<_, max}
 use mathlib.Core.List.{List, [], _∷_}
 use mathlib.Core.Bool.{Bool, true, false, _&&_, _||_, cond}
 use lib.Dec.{eqb}
@@ -42,3 +42,10 @@ keep f (x ∷ xs) = cond (f x) (x ∷ keep f xs) (keep f xs)
 abbrev pub All : {A : Type 0} → (A → Type 0) → List A → Type 0
 All P [] = Unit {0}
 All P (x ∷ xs) = P x × All P xs
+
+-- numbers that are bytes
+abbrev pub Byte : ℕ → Type 0
+Byte b = b < 256
+
+abbrev pub Bytes : List ℕ → Type 0
+Bytes s = All Byte s

@@ -1,8 +1,9 @@
 -- What is sound stays sound, whatever records are taken. Assumes nothing.
 use Prim.Native.Nat.{ℕ}
 use mathlib.Core.Path.{_≡_}
-use mathlib.Core.List.{List, [], _∷_}
+use mathlib.Core.List.{List}
 use mathlib.Core.Bool.{true}
+use Rattle.records.proofs.TakeLaws.{all-keep}
 use Rattle.ledger.specs.Sound.{soundLedger}
 use Rattle.ledger.proofs.SoundLaws.{sound-stays-sound}
 use Rattle.book.specs.Book.{State, takeRecord, takeAll}
@@ -12,5 +13,4 @@ unfolding takeRecord
 sound-record st s e = sound-stays-sound (st .ledger) (st .map) s e
 
 pub sound-run : (st : State) (ss : List (List ℕ)) → soundLedger (st .ledger) ≡ true → soundLedger (takeAll st ss .ledger) ≡ true
-sound-run st [] e = e
-sound-run st (s ∷ ss) e = sound-run (takeRecord st s) ss (sound-record st s e)
+sound-run = all-keep takeRecord (λ (st : State). soundLedger (st .ledger) ≡ true) sound-record

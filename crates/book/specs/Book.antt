@@ -1,14 +1,12 @@
 -- A book taken record by record: "a refused record is counted and passed over; a broken length counts as one refusal and ends the reading"
 -- (01, "Worked year").
 use Prim.Native.Nat.{ℕ, _+_}
-use mathlib.Core.List.{List, [], _∷_}
-use mathlib.Core.Bool.{Bool, true, false, cond}
-use lib.ListN.{replicate}
-use lib.Dec.{eqb}
+use mathlib.Core.List.{List}
+use mathlib.Core.Bool.{false, cond}
 use Rattle.wire.specs.Cut.{recordsOf, stopFrom, endsBy}
-use Rattle.marks.specs.Marks.{mapSize}
+use Rattle.records.specs.Records as records
+use Rattle.records.specs.Records.{oneIfRefused, isBroken}
 use Rattle.ledger.specs.declared.Ledger.{Ledger}
-use Rattle.ledger.specs.Ledger.{emptyLedger}
 use Rattle.ledger.specs.Take.{unsound, answerOf, ledgerAfter, mapAfter}
 use Rattle.book.specs.declared.Run.{Run}
 use Rattle.book.specs.declared.Read.{Read}
@@ -28,16 +26,11 @@ takeRecord st s =
     record {
       ledger = ledgerAfter (st .ledger) (st .map) s;
       map = mapAfter (st .ledger) (st .map) s;
-      refused = st .refused + cond (eqb (answerOf (st .ledger) (st .map) s) 0) 0 1;
+      refused = st .refused + oneIfRefused (answerOf (st .ledger) (st .map) s);
     }
 
 abbrev pub takeAll : State → List (List ℕ) → State
-takeAll st [] = st
-takeAll st (s ∷ ss) = takeAll (takeRecord st s) ss
-
--- the reading ends at a broken length
-abbrev pub isBroken : List ℕ → Bool
-isBroken book = eqb (endsBy book) 2
+takeAll = records.takeAll takeRecord
 
 -- the state after the whole records of a book
 abbrev pub afterBook : Ledger → List ℕ → List ℕ → State

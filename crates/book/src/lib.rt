@@ -1,8 +1,8 @@
 // Taking a whole book: a refused record is counted and passed over, and a broken length counts as one refusal and ends the reading.
 ghost use mathlib.Core.Path.{_≡_};
-ghost use mathlib.Core.Bool.{true, cond};
-ghost use lib.Dec.{eqb};
+ghost use mathlib.Core.Bool.{true};
 ghost use lib.ListN.{length};
+ghost use Rattle.marks.specs.Marks.{mapSize};
 ghost use Rattle.ledger.specs.Sound.{soundLedger};
 ghost use Rattle.book.specs.Book.{runOf, afterBook, readOf, mapRead};
 use ledger::Ledger;
@@ -25,17 +25,10 @@ pub struct Read {
     pub broken: bool,
 }
 
-// 1 for a refusal, 0 for none.
-fn one_if_refused(answer: u8) -> u64
-    ensures { λ r. ⌜ r ≡ cond (eqb answer 0) 0 1 ⌝ }
-{
-    if answer == 0 { 0 } else { 1 }
-}
-
 // The records of a book, one after the other. An accepted record keeps a sound ledger sound, so soundness is not looked at again; the cells are
 // written where they stand.
 pub fn take_records(ledger: Ledger, map: &mut [u8], book: &[u8]) -> Run
-    requires { ⌜ (soundLedger ledger ≡ true) × (length (now map) ≡ 8192) ⌝ }
+    requires { ⌜ (soundLedger ledger ≡ true) × (length (now map) ≡ mapSize) ⌝ }
     ensures { λ r. ⌜ (r ≡ runOf ledger (now (map .entry)) (now (book .entry))) × (now (map .exit) ≡ afterBook ledger (now (map .entry)) (now (book .entry)) .map) ⌝ }
 {
     let mut l = ledger;
@@ -47,21 +40,14 @@ pub fn take_records(ledger: Ledger, map: &mut [u8], book: &[u8]) -> Run
         let sheet = l.sheet;
         let v = record::judge(wire::part(book, start, end), sheet, &map[..], l.events);
         marks::mark(map, v.number);
-        let f = v.figures;
-        let n = f.customers;
-        let h = f.halves;
-        let at = v.row as usize * 3;
-        let nn = l.cells[at].grown(n[0], h[0]);
-        let vn = l.cells[at + 1].grown(n[1], h[1]);
-        let vvn = l.cells[at + 2].grown(n[2], h[2]);
+        let figures = v.figures;
         let next = v.sheet;
-        l.cells[at] = nn;
-        l.cells[at + 1] = vn;
-        l.cells[at + 2] = vvn;
+        let at = v.row as usize;
+        l.rows[at] = l.rows[at].grown(figures);
         l.sheet = next;
         l.events = l.events + v.events;
         l.short = l.short + v.short;
-        refused += one_if_refused(v.answer);
+        refused += records::one_if_refused(v.answer);
         stand = wire::stand_at(book, end);
     }
     Run {

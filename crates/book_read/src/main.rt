@@ -312,7 +312,7 @@ fn say_rest(begun: Page, buffer: &mut [u8], count: usize, out: &mut [u8]) -> Res
         let over = held % 32;
         let whole = held - over;
         page = say_bytes(out, page, wire::part(&buffer[..], 0, whole));
-        feed::move_to_front(buffer, whole, held);
+        records::move_to_front(buffer, whole, held);
         let filled = read_behind(buffer, over);
         if filled.failed | (filled.count == over) {
             return Rest {
@@ -377,8 +377,8 @@ fn hold(records: Records, buffer: &mut [u8], count: usize, out: &mut [u8]) -> Pi
         return ended(reading, true);
     }
     let held = count - records.stop;
-    feed::move_to_front(buffer, records.stop, count);
-    if feed::is_dead(&buffer[..], held) {
+    records::move_to_front(buffer, records.stop, count);
+    if records::is_dead(&buffer[..], held) {
         return end_with_rest(reading, buffer, held, out);
     }
     Piece {

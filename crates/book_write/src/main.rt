@@ -336,7 +336,7 @@ fn take_arrived(
     if count < reading.stop {
         return ended(reading, true);
     }
-    feed::move_to_front(buffer, reading.stop, count);
+    records::move_to_front(buffer, reading.stop, count);
     Piece {
         reading,
         held: count - reading.stop,

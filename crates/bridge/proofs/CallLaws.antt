@@ -26,7 +26,8 @@ use Rattle.index.specs.declared.Answer.the-variants.{Is, Refused}
 use Rattle.index.specs.declared.Index.{Index}
 use Rattle.index.specs.declared.Level.{Level}
 use Rattle.index.specs.Index.{formulaOf, indexOf, exactly, shownAnswer, shownIndex}
-use Rattle.index.proofs.IndexLaws.{Way, unsound, sheetless, divides-by-nobody, answered as is-answered, index-exactly}
+use Rattle.index.specs.Answered.{Way, unsound, sheetless, divides-by-nobody, answered as is-answered}
+use Rattle.index.proofs.IndexLaws.{index-exactly}
 use Rattle.slot.specs.declared.Slot.{Slot}
 use Rattle.plan.specs.Serve.{messageAnswer, mapServed, deskServed, servedOf}
 use Rattle.words.specs.Words.{ledgerWords, wordsFit, ledgerIn, flagOf, wordsOf}
@@ -36,6 +37,7 @@ use Rattle.words.proofs.LentLaws.{lent-answer, lent-output, lent-words, lent-ke
 use Rattle.naming.specs.Named.{indexNamed, levelNamed, setNamed, allNamed}
 use Rattle.bridge.specs.Calls.{isPair, emptyAnswer, emptyWords, takeAnswer, takeWords, takeMap, bookAnswer, bookWords, bookMap, bookOut, serveAnswer, serveWords, serveMap, serveDesk, indexAnswer, indexOut, decimalAnswer, decimalOut}
 use Rattle.bridge.proofs.NoneLaws.{none-taken, none-read, none-served, none-indexed, map-kept, book-map-kept, served-map-kept, served-desk-kept}
+use Rattle.bridge.specs.Inside.{handedBack}
 
 -- ---- outputs
 
@@ -118,9 +120,9 @@ module _ (header : ℕ) (ws m : List ℕ) (d : List Slot) (s : List ℕ) where
   unfolding serveAnswer
   serve-answer-is = lent-answer header ws (λ l. messageAnswer l m d s) (none-served m d s)
 
-  pub serve-words-is : settled header ws (servedOf (lentLedger header ws) m d s) ≡ serveWords header ws m d s
+  pub serve-words-is : settled header ws (handedBack (servedOf (lentLedger header ws) m d s)) ≡ serveWords header ws m d s
   unfolding serveWords serveAnswer
-  serve-words-is = lent-words header ws (λ l. servedOf l m d s) (none-served m d s)
+  serve-words-is = lent-words header ws (λ l. handedBack (servedOf l m d s)) (none-served m d s)
 
   pub serve-map-is : mapServed (lentLedger header ws) m d s ≡ serveMap header ws m d s
   unfolding serveMap serveAnswer

@@ -25,7 +25,8 @@ use Rattle.ledger.specs.declared.Ledger.{Ledger}
 use Rattle.ledger.specs.Ledger.{emptyLedger, added}
 use Rattle.ledger.specs.Sound.{soundLedger}
 use Rattle.ledger.specs.Take.{unsound, answerOf, ledgerAfter}
-use Rattle.ledger.proofs.LedgerLaws.{added-length, sound-short}
+use Rattle.ledger.proofs.CellLaws.{added-shaped, empty-shaped}
+use Rattle.ledger.proofs.LedgerLaws.{sound-short}
 use Rattle.ledger.proofs.TakeLaws.{accepted-sound, accepted-verdict, accepted-adds, refused-hands-back}
 use Rattle.ledger.proofs.SoundLaws.{verdict-fits}
 use Rattle.book.specs.declared.Read.{Read}
@@ -39,7 +40,7 @@ use Rattle.plan.proofs.MessageLaws.{opened, stepped, closed, refused-same, acce
 use Rattle.words.specs.Words.{wordsFit, ledgerIn, wordsOf, Fitting}
 use Rattle.words.proofs.WordsBack.{words-back, held-fits}
 use Rattle.words.proofs.LentLaws.{accepted-is}
-use Rattle.bridge.specs.Calls.{isPair, emptyAnswer, emptyWords, takeAnswer, takeWords, bookAnswer, bookWords, serveAnswer, serveWords}
+use Rattle.bridge.specs.Calls.{isPair, emptyAnswer, emptyWords, takeAnswer, takeWords, bookAnswer, bookWords, serveAnswer, serveWords, Holds}
 use Rattle.bridge.proofs.CallLaws.{behind-accepts, into-accepts}
 
 -- ---- a sheet's numbers
@@ -53,7 +54,7 @@ pub record SheetFits (s : Sheet) : Type 0 where
   pub vvn : getD (s .totals) 2 0 ≤ 4294967295
 
 sheet-of : (l : Ledger) → Fitting l → SheetFits (l .sheet)
-sheet-of l f = record { year = f .year; levels = f .levels; nn = f .nn; vn = f .vn; vvn = f .vvn }
+sheet-of l f = record { year = f .year; levels = f .totals; nn = f .nn; vn = f .vn; vvn = f .vvn }
 
 in-range-fits : (s : Sheet) → length (s .totals) ≡ 3 → inRange s ≡ true → SheetFits s
 in-range-fits s n e =
@@ -79,13 +80,13 @@ unfolding added
 added-fits l v f s events short =
     record {
       year = s .year;
-      levels = s .levels;
+      totals = s .levels;
       nn = s .nn;
       vn = s .vn;
       vvn = s .vvn;
       events = events;
       short = short;
-      cells = added-length l v ∙ f .cells;
+      shaped = added-shaped l v (f .shaped);
     }
 
 -- ---- the ledgers that are handed back
@@ -115,7 +116,7 @@ module _ (l : Ledger) (m s : List ℕ) (f : Fitting l) where
   accepted-fits a =
       let sound = sound-of l m (accepted-sound l m s a) in
       let fair = verdict-fits l m s sound .fair in
-      let levels : length (verdict .sheet .totals) ≡ 3 = ap (λ (v : Verdict). length (v .sheet .totals)) (accepted-verdict l m s a) ∙ three-totals (kindOf s) s (l .sheet) (f .levels) in
+      let levels : length (verdict .sheet .totals) ≡ 3 = ap (λ (v : Verdict). length (v .sheet .totals)) (accepted-verdict l m s a) ∙ three-totals (kindOf s) s (l .sheet) (f .totals) in
       added-fits l verdict f (go levels (fair .goes-on)) (fair .room) (omega (arith, sound-short l sound, fair .short, fair .room))
     where
       go : length (verdict .sheet .totals) ≡ 3 →
@@ -173,17 +174,13 @@ module _ (l : Ledger) (m : List ℕ) (d : List Slot) (s : List ℕ) (f : Fitting
 
 -- ---- the words that an accepted call leaves
 
--- they hold a ledger, and it is this one
-abbrev pub Holds : List ℕ → Ledger → Type 0
-Holds ws l = (wordsFit ws ≡ true) × (ledgerIn ws ≡ l)
-
 written-holds : (us : List ℕ) (l : Ledger) → Fitting l → us ≡ wordsOf l → Holds us l
 written-holds us l f e = subst⁻¹ (λ us. Holds us l) e (words-back l f)
 
 pub empty-goes-on : (header : ℕ) (ws : List ℕ) → emptyAnswer header ws ≡ 0 → Holds (emptyWords header ws) emptyLedger
 unfolding emptyWords
 empty-goes-on header ws a =
-    let none : Fitting emptyLedger = record { year = omega arith; levels = refl; nn = omega arith; vn = omega arith; vvn = omega arith; events = omega arith; short = omega arith; cells = refl } in
+    let none : Fitting emptyLedger = record { year = omega arith; totals = refl; nn = omega arith; vn = omega arith; vvn = omega arith; events = omega arith; short = omega arith; shaped = empty-shaped } in
     written-holds (emptyWords header ws) emptyLedger none (accepted-is (emptyAnswer header ws) (wordsOf emptyLedger) ws a)
 
 pub take-goes-on : (header : ℕ) (ws m s : List ℕ) → takeAnswer header ws m s ≡ 0 → Holds (takeWords header ws m s) (ledgerAfter (ledgerIn ws) m s)

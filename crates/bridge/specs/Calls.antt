@@ -2,11 +2,13 @@
 use Prim.Native.Nat.{ℕ}
 use mathlib.Core.List.{List, [], _∷_}
 use mathlib.Core.Bool.{Bool, true, cond}
+use mathlib.Core.Path.{_≡_}
 use lib.ListN.{length, getD, drop}
 use lib.Dec.{eqb}
 use Rattle.marks.specs.Marks.{mapSize}
 use Rattle.decimal.specs.declared.Shown.{Shown}
 use Rattle.decimal.specs.Decimal.{decimally}
+use Rattle.ledger.specs.declared.Ledger.{Ledger}
 use Rattle.ledger.specs.Ledger.{emptyLedger}
 use Rattle.ledger.specs.Take.{answerOf, ledgerAfter, mapAfter}
 use Rattle.book.specs.declared.Read.{Read}
@@ -104,3 +106,9 @@ decimalOut header ws index level set digits out =
 
 abbrev pub builtOf : ℕ → ℕ
 builtOf which = getD (version ∷ ledgerWords ∷ slotBytes ∷ mapSize ∷ slotCount ∷ []) which 0
+
+-- ---- the words that an accepted call leaves
+
+-- they hold a ledger, and it is this one
+abbrev pub Holds : List ℕ → Ledger → Type 0
+Holds ws l = (wordsFit ws ≡ true) × (ledgerIn ws ≡ l)

@@ -2,8 +2,12 @@
 // hands it to the call behind it, and writes it back where the answer is 0.
 ghost use mathlib.Core.Path.{_≡_};
 ghost use Rattle.bridge.specs.Calls.{emptyAnswer, emptyWords, takeAnswer, takeWords, takeMap, bookAnswer, bookWords, bookMap, bookOut, serveAnswer, serveWords, serveMap, serveDesk, indexAnswer, indexOut, decimalAnswer, decimalOut, builtOf};
+ghost use Rattle.bridge.specs.Inside.{handedBack};
+ghost use Rattle.words.specs.Header.{headed};
+ghost use Rattle.words.specs.Inside.{settled};
 use ledger::Ledger;
 use ledger::Taken;
+use plan::Served;
 use slot::Slot;
 use words::Pair;
 
@@ -74,6 +78,21 @@ pub extern "C" fn temelyak_take_book(
     )
 }
 
+// The answer of the desk, whose ledger is written where it is 0.
+fn settle_served(header: u64, ledger: &mut [u64], served: Served) -> u32
+    ensures { λ r. ⌜ (r ≡ headed header (served .answer)) × (now (ledger .exit) ≡ settled header (now (ledger .entry)) (handedBack served)) ⌝ }
+{
+    let next = served.ledger;
+    words::settle(
+        header,
+        ledger,
+        Taken {
+            answer: served.answer,
+            ledger: next,
+        },
+    )
+}
+
 // Serves one message at a desk.
 #[no_mangle]
 pub extern "C" fn temelyak_serve(
@@ -86,8 +105,8 @@ pub extern "C" fn temelyak_serve(
     ensures { λ r. ⌜ (r ≡ serveAnswer header (now (ledger .entry)) (now (map .entry)) (now (desk .entry)) (now (bytes .entry))) × (now (ledger .exit) ≡ serveWords header (now (ledger .entry)) (now (map .entry)) (now (desk .entry)) (now (bytes .entry))) × (now (map .exit) ≡ serveMap header (now (ledger .entry)) (now (map .entry)) (now (desk .entry)) (now (bytes .entry))) × (now (desk .exit) ≡ serveDesk header (now (ledger .entry)) (now (map .entry)) (now (desk .entry)) (now (bytes .entry))) ⌝ }
 {
     let lent = words::lent_ledger(header, ledger);
-    let taken = desk::serve(lent, map, desk, bytes);
-    words::settle(header, ledger, taken)
+    let served = desk::serve(lent, map, desk, bytes);
+    settle_served(header, ledger, served)
 }
 
 // An index as an exact fraction.

@@ -4,9 +4,21 @@ ghost use Rattle.base.specs.Lists.{listed};
 ghost use Rattle.codes.specs.Codes.{rowOf, levelOf, causeListed, rowHeld};
 
 // How many rows the ledger has, one for each event type, and how many levels: NN, VN, VVN.
-pub const ROWS: u8 = 7;
+pub const ROWS: usize = 7;
 
-pub const LEVELS: u8 = 3;
+pub const LEVELS: usize = 3;
+
+// The row of a type, and the level of a voltage, that is not listed: the one past the last.
+pub const NO_ROW: u8 = ROWS as u8;
+
+pub const NO_LEVEL: u8 = LEVELS as u8;
+
+// The latest minute that a time may have, the most customers of a level and the most events of a ledger.
+pub const LATEST: u32 = 600000;
+
+pub const MOST_CUSTOMERS: u32 = 10000000;
+
+pub const MOST_EVENTS: u16 = 65535;
 
 // Section 9.6, as printed.
 const CAUSES: [u8; 22] = [
@@ -41,7 +53,7 @@ pub enum Set {
     Unnamed,
 }
 
-// The ledger's row of an event type; ROWS where the type is not listed.
+// The ledger's row of an event type; NO_ROW where the type is not listed.
 pub fn row_of(typ: u8) -> u8
     ensures { λ r. ⌜ r ≡ rowOf typ ⌝ }
 {
@@ -52,10 +64,10 @@ pub fn row_of(typ: u8) -> u8
     if typ == 2 {
         return 6;
     }
-    ROWS
+    NO_ROW
 }
 
-// The level of a voltage code: 0 NN, 1 VN, 2 VVN; LEVELS where the code is not listed.
+// The level of a voltage code: 0 NN, 1 VN, 2 VVN; NO_LEVEL where the code is not listed.
 pub fn level_of(voltage: u8) -> u8
     ensures { λ r. ⌜ r ≡ levelOf voltage ⌝ }
 {
@@ -69,7 +81,7 @@ pub fn level_of(voltage: u8) -> u8
     if voltage == 7 {
         return 2;
     }
-    LEVELS
+    NO_LEVEL
 }
 
 // The lookup, in a table of 22 codes. At a constant table the compiler makes one test of bits of it.
@@ -98,8 +110,8 @@ pub fn holds_row(set: Set, row: u8) -> bool
     ensures { λ r. ⌜ r ≡ rowHeld set row ⌝ }
 {
     match set {
-        Set::All => row < ROWS,
+        Set::All => row < NO_ROW,
         Set::Std => (row == 0) | (row == 1) | (row == 6),
-        Set::Unnamed => row < ROWS,
+        Set::Unnamed => row < NO_ROW,
     }
 }

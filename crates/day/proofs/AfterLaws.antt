@@ -7,7 +7,7 @@ use mathlib.Core.Bool.{true, false, not, cond}
 use lib.ListN.{set}
 use lib.Dec.{eqb}
 use borrow.Author.Tests.{eqb-true, eqb-false, eq-eqb, ne-eqb, not-false}
-use Rattle.base.specs.First.{Clear}
+use Rattle.base.specs.First.{NoRule}
 use Rattle.base.proofs.TestLaws.{Tested, holds, fails, test}
 use Rattle.wire.specs.Frame.{kindOf}
 use Rattle.marks.specs.Marks.{marked, markedWith}
@@ -18,15 +18,14 @@ use Rattle.verdict.specs.declared.Verdict.{Verdict}
 use Rattle.verdict.specs.Verdict.{eventVerdict}
 use Rattle.record.specs.Rules.{rulesAt, notListed, alreadyMarked}
 use Rattle.record.specs.Verdict.{acceptedAt}
-use Rattle.record.proofs.JudgeLaws.{accepted-clear}
+use Rattle.record.proofs.JudgeLaws.{accepted-rules}
 use Rattle.record.proofs.FairLaws.{kind-taken}
 use Rattle.ledger.specs.declared.Ledger.{Ledger}
 use Rattle.ledger.specs.Ledger.{added}
 use Rattle.ledger.specs.Take.{answerOf, ledgerAfter, mapAfter}
 use Rattle.ledger.proofs.TakeLaws.{accepted-record, accepted-verdict, accepted-adds, refused-hands-back}
 use Rattle.slot.specs.Slot.{freeSlot, openedBy, steppedBy}
-use Rattle.roll.specs.Desk.{placeOf, slotOf}
-use Rattle.roll.specs.Roll.{numberIn}
+use Rattle.roll.specs.Desk.{placeOf, slotOf, numberIn}
 use Rattle.plan.specs.Rules.{lookAt, stepIn}
 use Rattle.plan.specs.Plan.{ledgerClosed}
 use Rattle.plan.proofs.MessageLaws.{Opened, Stepped, Closed, opened, stepped, closed, accepted-kind, refused-same}
@@ -100,8 +99,8 @@ pub record EventTaken (l : Ledger) (m s : List ℕ) : Type 0 where
   pub map : mapAfter l m s ≡ markedWith m (headIn s .number)
 
 module _ (l : Ledger) (m s : List ℕ) (a : answerOf l m s ≡ 0) where
-  clear-at : (kind : ℕ) → kindOf s ≡ kind → Clear (rulesAt kind s (l .sheet) m (l .events))
-  clear-at kind k = subst (λ kind. Clear (rulesAt kind s (l .sheet) m (l .events))) k (accepted-clear s (l .sheet) m (l .events) (accepted-record l m s a) .1)
+  rules-at : (kind : ℕ) → kindOf s ≡ kind → NoRule (rulesAt kind s (l .sheet) m (l .events))
+  rules-at kind k = subst (λ kind. NoRule (rulesAt kind s (l .sheet) m (l .events))) k (accepted-rules s (l .sheet) m (l .events) (accepted-record l m s a))
 
   adds-at : (kind : ℕ) → kindOf s ≡ kind → (ledgerAfter l m s ≡ added l (acceptedAt kind s (l .sheet))) × (mapAfter l m s ≡ markedWith m (acceptedAt kind s (l .sheet) .number))
   adds-at kind k =
@@ -113,7 +112,7 @@ module _ (l : Ledger) (m s : List ℕ) (a : answerOf l m s ≡ 0) where
   sheet-taken k =
       let adds = adds-at 1 k in
       record {
-        first-sheet = clear-at 1 k .1 .1 .0;
+        first-sheet = rules-at 1 k 5;
         sheet = ap (λ (n : Ledger). n .sheet .there) (adds .0);
         map = adds .1 ∙ markedWith-zero m;
       }
@@ -129,11 +128,11 @@ module _ (l : Ledger) (m s : List ℕ) (a : answerOf l m s ≡ 0) where
       EventTaken l m s
   unfolding added
   event-at kind k listed used sheet number =
-      let c = clear-at kind k in
+      let c = rules-at kind k in
       let adds = adds-at kind k in
       record {
-        head-listed = not-false _ (sym listed ∙ c .1 .1 .1 .1 .0);
-        unmarked = sym used ∙ c .1 .1 .1 .1 .1 .1 .1 .1 .1 .0;
+        head-listed = not-false _ (sym listed ∙ c 7);
+        unmarked = sym used ∙ c 14;
         sheet = ap (λ (n : Ledger). n .sheet) (adds .0) ∙ sheet;
         map = adds .1 ∙ ap (markedWith m) number;
       }
@@ -144,7 +143,7 @@ module _ (l : Ledger) (m s : List ℕ) (a : answerOf l m s ≡ 0) where
   event-taken (inr k) = event-at 3 k refl refl refl refl
 
   pub entry-kind : (kindOf s ≡ 1) ⊎ ((kindOf s ≡ 2) ⊎ (kindOf s ≡ 3))
-  entry-kind = kind-taken (kindOf s) (accepted-clear s (l .sheet) m (l .events) (accepted-record l m s a) .1 .0)
+  entry-kind = kind-taken (kindOf s) (accepted-rules s (l .sheet) m (l .events) (accepted-record l m s a) 3)
 
 -- what the accepted arrivals do, from the first on
 module _ (st : State) (a : Arrival) (as′ : List Arrival) where

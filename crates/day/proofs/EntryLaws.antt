@@ -8,7 +8,7 @@ use mathlib.Core.Bool.{Bool, true, false, _||_, not, cond, true≢false}
 use lib.ListN.{length}
 use lib.Dec.{eqb}
 use Rattle.base.specs.First.{Rule, Clear}
-use Rattle.base.proofs.FirstLaws.{clear, unclear}
+use Rattle.base.proofs.FirstLaws.{clear, clear-at, unclear}
 use Rattle.base.proofs.TestLaws.{Tested, holds, fails, test}
 use Rattle.wire.specs.Frame.{kindOf}
 use Rattle.marks.specs.Marks.{marked, markedWith, mapSize}
@@ -73,7 +73,7 @@ module _ (l : Ledger) (m s : List ℕ) (a : answerOf l m s ≡ 0) where
     where
       go : Tested (eqb (kindOf s) 1) → eqb (kindOf s) 1 ≡ false
       go (holds k) =
-          let second : sheetMissingOrSecond (kindOf s) (l .sheet) ≡ false = entry-clear .1 .1 .1 .1 .0 in
+          let second : sheetMissingOrSecond (kindOf s) (l .sheet) ≡ false = clear-at (takeRules l m s) entry-clear 5 in
           let first : sheetMissingOrSecond (kindOf s) (l .sheet) ≡ l .sheet .there = rw k in
           absurd (true≢false (sym e ∙ sym first ∙ second))
       go (fails k) = k
@@ -97,7 +97,7 @@ module _ (l : Ledger) (m s : List ℕ) (a : answerOf l m s ≡ 0) where
       go (fails b) (fails c) = let none : kindNotTaken kind ≡ true = rw (n, b, c) in absurd (true≢false (sym none ∙ k))
 
   pub entry-new : eqb (kindOf s) 1 ≡ false → marked m (headIn s .number) ≡ false
-  entry-new = unmarked-at (kindOf s) (entry-clear .1 .1 .0) (entry-clear .1 .1 .1 .1 .1 .1 .1 .1 .1 .1 .1 .0)
+  entry-new = unmarked-at (kindOf s) (clear-at (takeRules l m s) entry-clear 3) (clear-at (takeRules l m s) entry-clear 14)
 
   -- so it marks no number that was marked
   pub entry-other : (v : ℕ) → v ≢ 0 → marked m v ≡ true → numberMarked s ≢ v

@@ -10,28 +10,28 @@ use lib.Seq.{getD-set-same, getD-set-other}
 use native.Mathlib.Omega.{arith}
 use native.Mathlib.Decide.{ℕ-discrete}
 use borrow.Author.Tests.{eq-eqb, ne-eqb}
-use Rattle.base.specs.Lists.{All}
+use Rattle.base.specs.Lists.{All, Bytes}
 use Rattle.wire.specs.Frame.{kindOf}
+use Rattle.wire.proofs.ByteLaws.{le16-below}
 use Rattle.annex.specs.declared.Step.{Step}
-use Rattle.annex.specs.Stepped.{folded, lastTime}
+use Rattle.annex.specs.Stepped.{coursedAll, lastTime}
 use Rattle.marks.specs.Marks.{marked, markedWith}
 use Rattle.marks.proofs.MarkLaws.{markedWith-same}
 use Rattle.fields.specs.declared.Head.{Head}
 use Rattle.fields.specs.Fields.{headIn}
 use Rattle.fields.proofs.TestLaws.{listed-number}
 use Rattle.slot.specs.declared.Slot.{Slot}
-use Rattle.slot.specs.Slot.{freeSlot, openedBy, steppedBy}
-use Rattle.roll.specs.Desk.{slotCount, numberAt, placeOf, slotOf}
-use Rattle.roll.specs.Roll.{numberIn}
+use Rattle.slot.specs.Slot.{freeSlot, openedBy, steppedBy, courseIn}
+use Rattle.roll.specs.Desk.{slotCount, numberAt, placeOf, slotOf, numberIn}
 use Rattle.roll.proofs.SearchLaws.{place-set-same, place-set-other, place-set-gone, desk-slots, desk-differ}
 use Rattle.plan.specs.Rules.{stepIn}
 use Rattle.plan.proofs.MessageLaws.{opened, stepped, closed}
-use Rattle.day.specs.Day.{State, Arrival, message, entry, bytesOf, answerTo, after, afterAll, Bytes, Sound}
+use Rattle.day.specs.Day.{State, Arrival, message, entry, bytesOf, answerTo, after, afterAll, Sound}
 use Rattle.day.specs.Story.{Deed, opens, steps, closes, closings, headFor, stepsFor, slotHolding}
 use Rattle.day.specs.Late.{told, Replies, steppedAll, Holding, Begun}
 use Rattle.day.proofs.AfterLaws.{IsOpened, IsStepped, IsClosed, withOpened, withStepped, withClosed, telling-cases, entering-cases}
 use Rattle.day.proofs.SoundDay.{size-right, not-unsound, place-within, slot-number, place-open, sound-stays-sound, sound-throughout}
-use Rattle.day.proofs.MarkedDay.{two-bytes, marks-stay-throughout}
+use Rattle.day.proofs.MarkedDay.{marks-stay-throughout}
 
 stepped-head : (x : Slot) (sts : List Step) → steppedAll x sts .head ≡ x .head
 stepped-head x [] = refl
@@ -45,7 +45,7 @@ stepped-count : (x : Slot) (sts : List Step) → steppedAll x sts .steps ≡ x .
 stepped-count x [] = omega arith
 stepped-count x (st ∷ sts) = omega (arith, stepped-count (steppedBy x st) sts)
 
-stepped-figures : (x : Slot) (sts : List Step) → steppedAll x sts .figures ≡ folded (x .figures) (x .last) sts
+stepped-figures : (x : Slot) (sts : List Step) → steppedAll x sts .figures ≡ coursedAll (courseIn x) sts .figures
 stepped-figures x [] = refl
 stepped-figures x (st ∷ sts) = stepped-figures (steppedBy x st) sts
 
@@ -296,7 +296,7 @@ module _ (v : ℕ) (numbered : v ≢ 0) where
       used =
           ap (λ m. marked m v) (o .map) ∙
           subst (λ w. marked (markedWith (st .map) (numberIn s)) w ≡ true) n
-          (markedWith-same (st .map) (numberIn s) (size-right (st .ledger) (st .map) (o .ledger-sound)) (two-bytes s b 4) (listed-number (headIn s) (o .head-listed)))
+          (markedWith-same (st .map) (numberIn s) (size-right (st .ledger) (st .map) (o .ledger-sound)) (le16-below s b 4) (listed-number (headIn s) (o .head-listed)))
 
       ds : List Deed
       ds = told (after st (message s)) as′

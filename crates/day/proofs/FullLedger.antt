@@ -12,9 +12,11 @@ use native.Mathlib.Omega.{arith}
 use native.Mathlib.Decide.{ℕ-discrete}
 use native.Mathlib.Nat.{not-suc-le-zero, le-of-suc-le-suc}
 use borrow.Author.Tests.{eqb-true, eqb-false, ne-eqb, leb-true, leb-false, not-false}
-use Rattle.base.specs.Lists.{All, listed}
+use Rattle.base.specs.Lists.{All, listed, Bytes}
 use Rattle.base.proofs.TestLaws.{Tested, holds, fails, test, or-other}
+use Rattle.base.specs.First.{ruleOf}
 use Rattle.wire.specs.Frame.{kindOf}
+use Rattle.wire.proofs.ByteLaws.{le16-below}
 use Rattle.marks.specs.Marks.{marked, markedWith, mapSize}
 use Rattle.marks.proofs.MarkLaws.{markedWith-same, markedWith-other}
 use Rattle.fields.specs.Fields.{headIn}
@@ -27,25 +29,24 @@ use Rattle.record.proofs.FairLaws.{kind-taken as book-kind}
 use Rattle.ledger.specs.declared.Ledger.{Ledger}
 use Rattle.ledger.specs.Ledger.{emptyLedger, added}
 use Rattle.ledger.specs.Sound.{soundLedger}
-use Rattle.ledger.specs.Take.{answerOf, ledgerAfter}
+use Rattle.ledger.specs.Take.{answerOf, ledgerAfter, takeRules}
 use Rattle.ledger.proofs.ExactlyThen as book
 use Rattle.slot.specs.declared.Slot.{Slot}
 use Rattle.slot.specs.Slot.{freeSlot, openedBy, steppedBy}
-use Rattle.roll.specs.Desk.{numberAt, placeOf, slotOf, slotCount}
-use Rattle.roll.specs.Roll.{numberIn}
+use Rattle.roll.specs.Desk.{numberAt, placeOf, slotOf, slotCount, numberIn}
 use Rattle.plan.specs.Rules.{lookAt, stepIn}
 use Rattle.plan.specs.Rules as desk-rules
 use Rattle.plan.specs.Serve.{messageAnswer}
 use Rattle.plan.proofs.MessageLaws.{kind-taken as desk-kind}
 use Rattle.plan.proofs.ExactlyThen as desk
-use Rattle.day.specs.Day.{State, Arrival, message, entry, bytesOf, answerTo, after, afterAll, Bytes, Sound}
+use Rattle.day.specs.Day.{State, Arrival, message, entry, bytesOf, answerTo, after, afterAll, Sound}
 use Rattle.day.specs.Story.{emptyDay}
 use Rattle.day.specs.Late.{Refused}
 use Rattle.day.specs.Full.{lastNumber, openAt, openIn, freeAt, freeTo, Accounted, fromNothing, Full, AllMarked}
 use Rattle.day.proofs.AfterLaws.{IsOpened, IsStepped, IsClosed, withOpened, withStepped, withClosed, SheetTaken, EventTaken, event-taken, refused-after, message-cases, entry-cases}
 use Rattle.day.proofs.EntryLaws.{entry-ledger}
 use Rattle.day.proofs.SoundDay.{place-within, slot-number, sound-stays-sound, sound-throughout}
-use Rattle.day.proofs.MarkedDay.{two-bytes, empty-day-sound}
+use Rattle.day.proofs.MarkedDay.{empty-day-sound}
 
 -- 0 where a test holds, and else 1: so a slot counts by whether its number is 0, and a number by whether it is marked
 abbrev count : Bool → ℕ
@@ -124,7 +125,7 @@ free-none m (suc n) v e a b = go (ℕ-discrete v (suc n)) (free-none m n v)
 
 -- a number of two bytes that no map marks yet is one of those counted
 free-used : (m s : List ℕ) → length m ≡ mapSize → Bytes s → headIn s .number ≢ 0 → marked m (headIn s .number) ≡ false → suc (freeTo (markedWith m (headIn s .number)) lastNumber) ≡ freeTo m lastNumber
-free-used m s size b n u = let fits = two-bytes s b 4 in free-less m (headIn s .number) size fits n u lastNumber (omega arith)
+free-used m s size b n u = let fits = le16-below s b 4 in free-less m (headIn s .number) size fits n u lastNumber (omega arith)
 
 -- how many events an accepted record adds
 sheet-events : (l : Ledger) (m s : List ℕ) → answerOf l m s ≡ 0 → kindOf s ≡ 1 → ledgerAfter l m s .events ≡ l .events
@@ -223,7 +224,7 @@ module _ (st : State) (sound : Sound st) (k : Accounted st) where
   event-not-15 s b h u e =
       let number = headIn s .number in
       let some : number ≢ 0 = listed-number (headIn s) h in
-      let fits = two-bytes s b 4 in
+      let fits = le16-below s b 4 in
       true≢false (sym (full-marked st k (at-last e) number (omega arith) (omega arith)) ∙ u)
 
   module _ (s : List ℕ) (b : Bytes s) where
@@ -242,8 +243,9 @@ module _ (st : State) (sound : Sound st) (k : Accounted st) where
 
     entry-not-15 : answerOf (st .ledger) (st .map) s ≡ 15 → ⊥
     entry-not-15 a =
-        let f = book.exactly-15 (st .ledger) (st .map) s .0 a in
-        entry-at (kindOf s) (book-kind (kindOf s) (f .1 .1 .0)) (f .1 .1 .1 .1 .1 .1 .0) (f .1 .1 .1 .1 .1 .1 .1 .1 .1 .1 .1 .0) (f .1 .1 .1 .1 .1 .1 .1 .1 .1 .1 .1 .1)
+        let passed : (n : ℕ) → n < 15 → ruleOf n (takeRules (st .ledger) (st .map) s) ≡ false = λ n. book.passed-over (st .ledger) (st .map) s 15 n a in
+        entry-at (kindOf s) (book-kind (kindOf s) (passed 3 (omega arith))) (passed 7 (omega arith)) (passed 14 (omega arith))
+        (book.answered (st .ledger) (st .map) s 15 a (omega arith))
 
     -- a close that could be added names an outage that is open
     close-not-15 : numberIn s ≢ 0 → placeOf (numberIn s) (st .desk) < slotCount → leb lastNumber (st .ledger .events) ≡ true → ⊥
@@ -261,8 +263,10 @@ module _ (st : State) (sound : Sound st) (k : Accounted st) where
 
     message-not-15 : messageAnswer (st .ledger) (st .map) (st .desk) s ≡ 15 → ⊥
     message-not-15 a =
-        let f = desk.exactly-15 (st .ledger) (st .map) (st .desk) s .0 a in
-        message-at (kindOf s) (desk-kind (kindOf s) (f .1 .1 .0)) (f .1 .1 .1 .1 .1 .0) (f .1 .1 .1 .1 .1 .1 .0) (f .1 .1 .1 .1 .1 .1 .1 .1 .1 .1 .1 .1)
+        let passed : (n : ℕ) → n < 15 → ruleOf n (desk-rules.rules (lookAt (st .desk) s) (st .ledger) (st .map) s) ≡ false =
+        λ n. desk.passed-over (st .ledger) (st .map) (st .desk) s 15 n a in
+        message-at (kindOf s) (desk-kind (kindOf s) (passed 3 (omega arith))) (passed 7 (omega arith)) (passed 8 (omega arith))
+        (desk.number-applies (st .ledger) (st .map) (st .desk) s 15 a (omega arith))
 
   pub not-15 : (a : Arrival) → Bytes (bytesOf a) → answerTo st a ≡ 15 → ⊥
   not-15 (message s) b = message-not-15 s b
@@ -277,7 +281,7 @@ module _ (st : State) (sound : Sound st) (k : Accounted st) where
       accepted-not : EventTaken (st .ledger) (st .map) s → ⊥
       accepted-not o =
           let some : headIn s .number ≢ 0 = listed-number (headIn s) (o .head-listed) in
-          let fits = two-bytes s b 4 in
+          let fits = le16-below s b 4 in
           true≢false (sym (full-marked st k full (headIn s .number) (omega arith) (omega arith)) ∙ o .unmarked)
 
       least : (n : ℕ) (vs : List ℕ) → All (λ v. n ≡ v → n ≤ 14) vs → listed n vs ≡ true → n ≤ 14

@@ -1,7 +1,7 @@
 -- A slot that holds an event, with one step more: the slot is the fold of the steps, and a fold goes on where it left off; the event passes the
 -- book's rules still, since the step passed the desk's. Assumes nothing.
 use Prim.Native.Nat.{ℕ, _+_, _-_, _≤_}
-use mathlib.Core.Path.{_≡_, refl, sym, subst}
+use mathlib.Core.Path.{_≡_, refl, sym, ap, subst, _∙_}
 use mathlib.Core.List.{List, [], _∷_, _++_}
 use mathlib.Core.Bool.{Bool, false}
 use lib.ListN.{length, length-append}
@@ -9,25 +9,21 @@ use Rattle.base.specs.Lists.{any}
 use Rattle.base.proofs.TestLaws.{or-left, or-right, or-both}
 use Rattle.codes.specs.Codes.{levelOf}
 use Rattle.annex.specs.declared.Step.{Step}
-use Rattle.annex.specs.declared.Figures.{Figures}
-use Rattle.annex.specs.Figures.{nothing, withStep}
-use Rattle.annex.specs.Stepped.{folded, lastTime}
+use Rattle.annex.specs.declared.Course.{Course}
+use Rattle.annex.specs.Figures.{withStep}
+use Rattle.annex.specs.Stepped.{begun, lastTime, steppedFigures}
+use Rattle.annex.proofs.FoldLaws.{course-snoc, course-last}
 use Rattle.fields.specs.declared.Sheet.{Sheet}
+use Rattle.codec.specs.Fits.{StepInBytes}
 use Rattle.limits.specs.Limits.{exceeding, aboveLevel, lateStep, anyLate}
 use Rattle.slot.specs.Slot.{steppedBy}
 use Rattle.day.specs.Story.{Event, slotHolding}
-use Rattle.day.proofs.EncodeLaws.{StepInBytes, Passed}
+use Rattle.day.proofs.EncodeLaws.{Passed}
 use Rattle.day.proofs.StoryLaws.{all-snoc, withLast}
 
 last-snoc : (before : ℕ) (ss : List Step) (st : Step) → lastTime before (ss ++ st ∷ []) ≡ st .time
 last-snoc before [] st = refl
 last-snoc before (s ∷ ss) st = last-snoc (s .time) ss st
-
-folded-snoc :
-    (f : Figures) (before : ℕ) (ss : List Step) (st : Step) →
-    folded f before (ss ++ st ∷ []) ≡ withStep (folded f before ss) (st .counts) (st .time - lastTime before ss)
-folded-snoc f before [] st = refl
-folded-snoc f before (s ∷ ss) st = folded-snoc (withStep f (s .counts) (s .time - before)) (s .time) ss st
 
 late-snoc :
     (before : ℕ) (ss : List Step) (st : Step) →
@@ -47,12 +43,15 @@ any-snoc f (x ∷ xs) y a b = or-both (f x) (any f (xs ++ y ∷ [])) (or-left (f
 module _ (e : Event) (st : Step) where
   pub holding-stepped : steppedBy (slotHolding e) st ≡ slotHolding (withLast e st)
   holding-stepped =
+      let figures : steppedFigures (e .head .t0) (e .steps ++ st ∷ []) ≡ withStep (steppedFigures (e .head .t0) (e .steps)) (st .counts) (st .time - lastTime (e .head .t0) (e .steps)) =
+      ap (λ (c : Course). c .figures) (course-snoc (begun (e .head .t0)) (e .steps) st) ∙
+      ap (λ t. withStep (steppedFigures (e .head .t0) (e .steps)) (st .counts) (st .time - t)) (course-last (begun (e .head .t0)) (e .steps)) in
       λ i.
       record {
         head = e .head;
         last = sym (last-snoc (e .head .t0) (e .steps) st) i;
         steps = sym (length-append (e .steps) (st ∷ [])) i;
-        figures = sym (folded-snoc nothing (e .head .t0) (e .steps) st) i;
+        figures = sym figures i;
       }
 
   pub passed-stepped :

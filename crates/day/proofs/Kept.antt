@@ -9,11 +9,13 @@ use lib.ListN.{length, getD, set, length-set, List·getD-eq-default}
 use lib.Dec.{eqb}
 use native.Mathlib.Nat.{le-refl}
 use Rattle.base.specs.Lists.{All}
+use Rattle.records.proofs.TakeLaws.{take-all-append}
 use Rattle.annex.specs.declared.Step.{Step}
 use Rattle.marks.specs.Marks.{marked, markedWith, mapSize}
 use Rattle.marks.proofs.MarkLaws.{markedWith-same, markedWith-other}
 use Rattle.fields.specs.declared.Head.{Head}
 use Rattle.fields.specs.declared.Sheet.{Sheet}
+use Rattle.codec.specs.Fits.{StepInBytes}
 use Rattle.limits.specs.Limits.{lateStep, exceeding, aboveLevel}
 use Rattle.fields.proofs.TestLaws.{listed-number}
 use Rattle.codes.specs.Codes.{levelOf}
@@ -23,14 +25,13 @@ use Rattle.ledger.specs.Ledger.{added}
 use Rattle.ledger.specs.Sound.{soundLedger}
 use Rattle.ledger.specs.Take.{unsound, answerOf, ledgerAfter, mapAfter}
 use Rattle.book.specs.Book.{starting, takeRecord, takeAll}
-use Rattle.book.proofs.AppendLaws.{take-all-append}
 use Rattle.slot.specs.declared.Slot.{Slot}
 use Rattle.slot.specs.Slot.{freeSlot, openedBy, steppedBy}
 use Rattle.roll.specs.Desk.{slotCount, numberAt, numbersOf, placeOf, slotOf, differ}
 use Rattle.roll.proofs.SearchLaws.{set-cases, numbers-length, numbers-at, numbers-set, numbers-same, found-number, differ-apart}
 use Rattle.day.specs.Day.{State, entry, after}
 use Rattle.day.specs.Story.{Deed, opens, steps, closes, takes, Event, eventFor, about, openDeeds, openings, closings, recordOf, completeIn, slotHolding, markedAll, Once}
-use Rattle.day.proofs.EncodeLaws.{StepInBytes, InBytes, Passed, record-taken}
+use Rattle.day.proofs.EncodeLaws.{InBytes, Passed, record-taken}
 use Rattle.day.proofs.StoryLaws.{all-map, all-both, all-snoc, once-snoc, named, named-snoc, openings-snoc, closings-snoc, openings-named, closings-named, Spares, withLast, event-spared, event-closed, event-stepped, event-opened, about-spared, order-opened, order-stepped, order-closed, complete-more}
 use Rattle.day.proofs.HoldLaws.{holding-stepped, passed-stepped}
 use Rattle.day.proofs.OpenMarks.{all-size, all-other, all-through, all-in, all-out, still-marked, not-before}
@@ -343,7 +344,7 @@ module _ (l₀ : Ledger) (m₀ : List ℕ) (ds : List Deed) (st : State) (k : Ke
             rest = markedWith (k .rest) n;
             taken =
                 ap (takeAll (starting l₀ m₀)) records ∙
-                take-all-append (starting l₀ m₀) (completeIn ds ds) (recordOf e ∷ []) ∙
+                take-all-append takeRecord (starting l₀ m₀) (completeIn ds ds) (recordOf e ∷ []) ∙
                 ap (λ b. takeRecord b (recordOf e)) (k .taken) ∙
                 replayed;
             same =
@@ -457,7 +458,7 @@ module _ (l₀ : Ledger) (m₀ : List ℕ) (ds : List Deed) (st : State) (k : Ke
           rest = markedWith (k .rest) n;
           taken =
               ap (takeAll (starting l₀ m₀)) records ∙
-              take-all-append (starting l₀ m₀) (completeIn ds ds) (s ∷ []) ∙
+              take-all-append takeRecord (starting l₀ m₀) (completeIn ds ds) (s ∷ []) ∙
               ap (λ b. takeRecord b s) (k .taken) ∙
               replayed;
           same =

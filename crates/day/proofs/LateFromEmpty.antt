@@ -4,14 +4,14 @@ use Prim.Native.Nat.{ℕ}
 use mathlib.Core.Path.{_≡_, refl, sym, _∙_, ap, subst}
 use mathlib.Core.List.{List, [], _∷_, _++_}
 use mathlib.Core.Bool.{true, true≢false}
-use Rattle.base.specs.Lists.{All}
+use Rattle.base.specs.Lists.{All, Bytes}
 use Rattle.base.proofs.ListLaws.{all-front}
 use Rattle.base.proofs.TestLaws.{Tested, holds, fails, test}
 use Rattle.ledger.specs.declared.Ledger.{Ledger}
 use Rattle.ledger.specs.Take.{unsound}
 use Rattle.ledger.proofs.TakeLaws.{accepted-sound}
 use Rattle.plan.proofs.MessageLaws.{accepted-ledger-sound}
-use Rattle.day.specs.Day.{State, Arrival, message, entry, bytesOf, answerTo, afterAll, Bytes}
+use Rattle.day.specs.Day.{State, Arrival, message, entry, bytesOf, answerTo, afterAll}
 use Rattle.day.specs.Story.{emptyDay}
 use Rattle.day.specs.Late.{TooLate, WasClosed}
 use Rattle.day.proofs.AfterLaws.{refused-after}

@@ -10,7 +10,7 @@ use lib.Dec.{T, leb, ltb, leb→le, ltb→lt}
 use native.Mathlib.Omega.{arith}
 use borrow.Author.Tests.{ne-eqb, le-leb}
 use Rattle.base.specs.First.{Rule, first}
-use Rattle.base.specs.Lists.{All}
+use Rattle.base.specs.Lists.{All, Bytes}
 use Rattle.base.proofs.TestLaws.{or-both}
 use Rattle.wire.specs.Frame.{framed, kindOf}
 use Rattle.marks.specs.Marks.{marked}
@@ -19,14 +19,13 @@ use Rattle.verdict.specs.Verdict.{eventVerdict}
 use Rattle.ledger.specs.Ledger.{added}
 use Rattle.ledger.specs.Take.{unsound, answerOf}
 use Rattle.slot.specs.Slot.{freeSlot, openedBy, steppedBy}
-use Rattle.roll.specs.Desk.{slotCount, numberAt, deskSound, placeOf, slotOf}
-use Rattle.roll.specs.Roll.{numberIn}
+use Rattle.roll.specs.Desk.{slotCount, numberAt, deskSound, placeOf, slotOf, numberIn}
 use Rattle.roll.proofs.SearchLaws.{set-cases, missing, desk-slots}
 use Rattle.plan.specs.Rules.{stepIn, lengthWrong}
 use Rattle.plan.specs.Plan.{lookAnswer}
 use Rattle.plan.specs.Serve.{messageAnswer}
 use Rattle.plan.proofs.MessageLaws.{closed}
-use Rattle.day.specs.Day.{State, Arrival, message, entry, bytesOf, answerTo, after, afterAll, Bytes, Sound, Marked}
+use Rattle.day.specs.Day.{State, Arrival, message, entry, bytesOf, answerTo, after, afterAll, Sound, Marked}
 use Rattle.day.specs.Story.{Deed, opens, steps, closes, names, about}
 use Rattle.day.specs.Late.{told, usings, Replies, Begins, Refused, lateRules, againRules, TooLate}
 use Rattle.day.proofs.AfterLaws.{IsOpened, IsStepped, IsClosed, withOpened, withStepped, withClosed, message-cases, entry-cases, refused-after, after-closed, telling-cases, entering-cases}

@@ -5,7 +5,6 @@ pub mod EntryLaws
 pub mod HoldLaws
 pub mod Kept
 pub mod StepByStep
-pub mod OneDay
 pub mod SlotLaws
 pub mod AfterLaws
 pub mod SoundDay

@@ -8,8 +8,9 @@ use lib.Dec.{eqb}
 use native.Mathlib.Omega.{arith}
 use native.Mathlib.Decide.{ℕ-discrete}
 use borrow.Author.Tests.{eqb-true, eqb-false}
-use Rattle.base.specs.Lists.{All}
+use Rattle.base.specs.Lists.{All, Bytes}
 use Rattle.base.proofs.TestLaws.{Tested, holds, fails, test}
+use Rattle.wire.proofs.ByteLaws.{le16-below}
 use Rattle.marks.specs.Marks.{marked, markedWith, mapSize}
 use Rattle.marks.proofs.MarkLaws.{markedWith-again, markedWith-other, markedWith-same}
 use Rattle.wire.specs.Numbers.{le16}
@@ -20,23 +21,13 @@ use Rattle.ledger.specs.Take.{answerOf}
 use Rattle.ledger.proofs.TakeLaws.{accepted-adds, refused-hands-back}
 use Rattle.slot.specs.declared.Slot.{Slot}
 use Rattle.slot.specs.Slot.{freeSlot, openedBy, steppedBy}
-use Rattle.roll.specs.Desk.{numberAt, placeOf, slotOf}
-use Rattle.roll.specs.Roll.{numberIn}
+use Rattle.roll.specs.Desk.{numberAt, placeOf, slotOf, numberIn}
 use Rattle.roll.proofs.SearchLaws.{empty-sound}
 use Rattle.plan.specs.Rules.{stepIn}
-use Rattle.day.specs.Day.{State, Arrival, message, entry, bytesOf, after, afterAll, Bytes, Sound, Marked}
+use Rattle.day.specs.Day.{State, Arrival, message, entry, bytesOf, after, afterAll, Sound, Marked}
 use Rattle.day.specs.Story.{emptyDay}
 use Rattle.day.proofs.AfterLaws.{IsOpened, IsStepped, IsClosed, withOpened, withStepped, withClosed, message-cases}
 use Rattle.day.proofs.SoundDay.{sound-stays-sound, sound-throughout}
-
--- a number of two bytes
-byte-below : (s : List ℕ) → Bytes s → (i : ℕ) → getD s i 0 < 256
-byte-below [] b i = omega arith
-byte-below (x ∷ s) b zero = b .0
-byte-below (x ∷ s) b (suc i) = byte-below s (b .1) i
-
-pub two-bytes : (s : List ℕ) → Bytes s → (at : ℕ) → le16 s at < 65536
-two-bytes s b at = omega (arith, byte-below s b at, byte-below s b (at + 1))
 
 -- a marked number stays marked, whatever is marked after it
 pub marked-stays : (m : List ℕ) (v w : ℕ) → marked m v ≡ true → marked (markedWith m w) v ≡ true
@@ -86,7 +77,7 @@ marks-kept st sound k (message s) b = message-cases st s Marked (λ _. k) (λ _ 
     opens o =
         marked-set (markedWith (st .map) (numberIn s)) (st .desk) (placeOf 0 (st .desk)) (openedBy (headIn s))
         (marked-more (st .map) (markedWith (st .map) (numberIn s)) (st .desk) (λ v. marked-stays (st .map) v (numberIn s)) k)
-        (markedWith-same (st .map) (numberIn s) (sound .map) (two-bytes s b 4))
+        (markedWith-same (st .map) (numberIn s) (sound .map) (le16-below s b 4))
 
     steps : IsStepped st s → Marked (withStepped st s)
     steps o =

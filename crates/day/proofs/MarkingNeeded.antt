@@ -6,21 +6,21 @@ use mathlib.Core.List.{[], _∷_}
 use mathlib.Core.Bool.{true, false≢true}
 use lib.ListN.{getD, replicate, set}
 use native.Mathlib.Omega.{arith}
-use Rattle.codes.specs.Codes.{rowOf, levelOf, causes, causeListed}
+use Rattle.codes.specs.Codes.{rows, rowOf, levelOf, causes, causeListed}
 use Rattle.annex.specs.Figures.{customers, halfMinutes, withStep}
 use Rattle.annex.specs.Times.{minutesIn, isShort}
 use Rattle.marks.specs.Marks.{marked, marking, markedWith}
 use Rattle.verdict.specs.Verdict.{eventVerdict}
 use Rattle.record.specs.Verdict.{recordAnswer, verdictOf}
 use Rattle.ledger.specs.declared.Ledger.{Ledger}
-use Rattle.ledger.specs.Ledger.{noCell, added}
+use Rattle.ledger.specs.Ledger.{emptyRow, added}
 use Rattle.ledger.specs.Sound.{soundLedger}
 use Rattle.ledger.specs.Take.{answerOf, ledgerAfter, mapAfter}
 use Rattle.slot.specs.declared.Slot.{Slot}
 use Rattle.slot.specs.Slot.{freeSlot, openedBy}
 use Rattle.slot.specs.Sound.{isFree, openSound, slotSound}
 use Rattle.roll.specs.Desk.{deskSound, placeOf}
-use Rattle.plan.specs.Plan.{lookAnswer}
+use Rattle.plan.specs.Plan.{lookAnswer, planOf}
 use Rattle.plan.specs.Serve.{messageAnswer, ledgerServed, mapServed, deskServed}
 use Rattle.day.specs.Day.{State, Arrival, message, entry, afterAll, Sound, Marked}
 use Rattle.day.specs.Late.{answersTo, TooLate}
@@ -33,7 +33,7 @@ year =
       sheet = record { there = true; year = 2009; totals = 1000 ∷ 10 ∷ 1 ∷ [] };
       events = 0;
       short = 0;
-      cells = replicate 21 noCell;
+      rows = replicate rows emptyRow;
     }
 
 -- outage 7, on NN, since minute 100, with no step yet
@@ -90,12 +90,12 @@ pub marking-is-needed :
     (getD (afterAll unmarkedDay (step-1 ∷ close-7 ∷ open-7 ∷ step-1 ∷ []) .desk) 0 freeSlot ≡ sevenAgain) ×
     (answersTo unmarkedDay (step-1 ∷ close-7 ∷ book-7 ∷ []) ≡ 0 ∷ 0 ∷ 0 ∷ []) ×
     (TooLate 7 (afterAll unmarkedDay (step-1 ∷ close-7 ∷ [])) → ⊥)
-unfolding soundLedger deskSound slotSound isFree openSound rowOf levelOf causes causeListed withStep minutesIn isShort marked marking markedWith eventVerdict recordAnswer verdictOf added answerOf ledgerAfter mapAfter lookAnswer messageAnswer ledgerServed mapServed deskServed
+unfolding soundLedger deskSound slotSound isFree openSound rowOf levelOf causes causeListed withStep minutesIn isShort marked marking markedWith eventVerdict recordAnswer verdictOf added answerOf ledgerAfter mapAfter lookAnswer planOf messageAnswer ledgerServed mapServed deskServed
 marking-is-needed = (refl, refl, refl, λ late. late .again-refused open-7 (refl, refl) .not-accepted refl)
 
 -- Marked: 14 for the open, 8 for the step, 14 for the book event.
 pub marked-is-refused :
     (answersTo markedDay (step-1 ∷ close-7 ∷ open-7 ∷ step-1 ∷ []) ≡ 0 ∷ 0 ∷ 14 ∷ 8 ∷ []) ×
     (answersTo markedDay (step-1 ∷ close-7 ∷ book-7 ∷ []) ≡ 0 ∷ 0 ∷ 14 ∷ [])
-unfolding soundLedger deskSound slotSound isFree openSound rowOf levelOf causes causeListed withStep minutesIn isShort marked marking markedWith eventVerdict recordAnswer verdictOf added answerOf ledgerAfter mapAfter lookAnswer messageAnswer ledgerServed mapServed deskServed
+unfolding soundLedger deskSound slotSound isFree openSound rowOf levelOf causes causeListed withStep minutesIn isShort marked marking markedWith eventVerdict recordAnswer verdictOf added answerOf ledgerAfter mapAfter lookAnswer planOf messageAnswer ledgerServed mapServed deskServed
 marked-is-refused = (refl, refl)

@@ -7,24 +7,24 @@ use mathlib.Core.Bool.{Bool, true, false, cond, true≢false}
 use lib.ListN.{length, getD}
 use lib.Dec.{eqb}
 use native.Mathlib.Omega.{arith}
-use Rattle.base.specs.Lists.{All}
+use Rattle.base.specs.Lists.{All, Bytes}
 use Rattle.base.proofs.TestLaws.{Tested, holds, fails, test}
 use Rattle.wire.specs.Frame.{kindOf}
+use Rattle.wire.proofs.ByteLaws.{le16-below}
 use Rattle.marks.specs.Marks.{marked}
 use Rattle.marks.proofs.MarkLaws.{markedWith-same}
 use Rattle.fields.specs.Fields.{headIn}
 use Rattle.fields.proofs.TestLaws.{listed-number}
 use Rattle.ledger.proofs.TakeLaws.{accepted-sound}
 use Rattle.slot.specs.Slot.{freeSlot}
-use Rattle.roll.specs.Desk.{slotCount, numberAt, placeOf}
-use Rattle.roll.specs.Roll.{numberIn}
+use Rattle.roll.specs.Desk.{slotCount, numberAt, placeOf, numberIn}
 use Rattle.roll.proofs.SearchLaws.{missing, desk-slots}
-use Rattle.day.specs.Day.{State, Arrival, message, entry, bytesOf, answerTo, after, Bytes, Sound, Marked}
+use Rattle.day.specs.Day.{State, Arrival, message, entry, bytesOf, answerTo, after, Sound, Marked}
 use Rattle.day.specs.Story.{Deed, opens, steps, closes, takes, openings, Once}
 use Rattle.day.specs.Late.{told, usings}
 use Rattle.day.proofs.AfterLaws.{IsOpened, withOpened, withStepped, withClosed, EventTaken, telling-cases, entering-cases}
 use Rattle.day.proofs.SoundDay.{size-right}
-use Rattle.day.proofs.MarkedDay.{two-bytes, marks-stay, marked-at}
+use Rattle.day.proofs.MarkedDay.{marks-stay, marked-at}
 
 -- what holds of each holds of each
 each-other : {A : Type 0} {P Q : A → Type 0} → ((x : A) → P x → Q x) → (xs : List A) → All P xs → All Q xs
@@ -88,7 +88,7 @@ used-once st (message s ∷ as′) b =
   where
     marks : IsOpened st s → marked (withOpened st s .map) (numberIn s) ≡ true
     marks o =
-        markedWith-same (st .map) (numberIn s) (size-right (st .ledger) (st .map) (o .ledger-sound)) (two-bytes s (b .0) 4)
+        markedWith-same (st .map) (numberIn s) (size-right (st .ledger) (st .map) (o .ledger-sound)) (le16-below s (b .0) 4)
         (listed-number (headIn s) (o .head-listed))
 used-once st (entry s ∷ as′) b =
     entering-cases st s as′ (λ t ds. Once (usings ds))
@@ -102,7 +102,7 @@ used-once st (entry s ∷ as′) b =
     marks : answerTo st (entry s) ≡ 0 → EventTaken (st .ledger) (st .map) s → marked (after st (entry s) .map) (headIn s .number) ≡ true
     marks a o =
         ap (λ m. marked m (headIn s .number)) (o .map) ∙
-        markedWith-same (st .map) (headIn s .number) (size-right (st .ledger) (st .map) (accepted-sound (st .ledger) (st .map) s a)) (two-bytes s (b .0) 4)
+        markedWith-same (st .map) (headIn s .number) (size-right (st .ledger) (st .map) (accepted-sound (st .ledger) (st .map) s a)) (le16-below s (b .0) 4)
         (listed-number (headIn s) (o .head-listed))
 
 -- the opens are among them

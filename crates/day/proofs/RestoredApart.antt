@@ -13,7 +13,7 @@ use Rattle.ledger.specs.Ledger.{cellOf, added}
 use Rattle.ledger.specs.Sound.{soundLedger}
 use Rattle.slot.specs.Sound.{isFree, openSound, slotSound}
 use Rattle.roll.specs.Desk.{deskSound}
-use Rattle.plan.specs.Plan.{lookAnswer}
+use Rattle.plan.specs.Plan.{lookAnswer, planOf}
 use Rattle.plan.specs.Serve.{messageAnswer, ledgerServed, mapServed, deskServed}
 use Rattle.day.specs.Day.{State, after, afterAll, Sound, Marked}
 use Rattle.day.specs.Late.{answersTo}
@@ -36,7 +36,7 @@ abbrev pub counted : Ledger → List ℕ
 counted l = l .events ∷ cellOf l 0 0 .customers .0 ∷ cellOf l 0 0 .halves .0 ∷ []
 
 pub restored-sound : Sound restoredApart × Marked restoredApart
-unfolding soundLedger deskSound slotSound isFree openSound rowOf levelOf causes causeListed withStep minutesIn isShort marked eventVerdict added lookAnswer messageAnswer ledgerServed mapServed deskServed
+unfolding soundLedger deskSound slotSound isFree openSound rowOf levelOf causes causeListed withStep minutesIn isShort marked eventVerdict added lookAnswer planOf messageAnswer ledgerServed mapServed deskServed
 restored-sound = (record { ledger = refl; map = refl; desk = refl }, (λ _. refl, marked-none (restoredApart .map) 31))
 
 -- 50 customers, 2 x 50 x 30 half minutes: once after the close, twice after it was taken again
@@ -44,10 +44,10 @@ pub counted-twice :
     (counted (closedDay .ledger) ≡ 1 ∷ 50 ∷ 3000 ∷ []) ×
     (answersTo restoredApart (close-7 ∷ []) ≡ 0 ∷ []) ×
     (counted (after restoredApart close-7 .ledger) ≡ 2 ∷ 100 ∷ 6000 ∷ [])
-unfolding soundLedger deskSound slotSound isFree openSound rowOf levelOf causes causeListed withStep minutesIn isShort eventVerdict added lookAnswer messageAnswer ledgerServed mapServed deskServed
+unfolding soundLedger deskSound slotSound isFree openSound rowOf levelOf causes causeListed withStep minutesIn isShort eventVerdict added lookAnswer planOf messageAnswer ledgerServed mapServed deskServed
 counted-twice = (refl, refl, refl)
 
 -- where the three are from one time, the close is refused (8)
 pub counted-once : answersTo closedDay (close-7 ∷ []) ≡ 8 ∷ []
-unfolding soundLedger deskSound slotSound isFree openSound rowOf levelOf causes causeListed withStep minutesIn isShort eventVerdict added lookAnswer messageAnswer ledgerServed mapServed deskServed
+unfolding soundLedger deskSound slotSound isFree openSound rowOf levelOf causes causeListed withStep minutesIn isShort eventVerdict added lookAnswer planOf messageAnswer ledgerServed mapServed deskServed
 counted-once = refl

@@ -16,7 +16,7 @@ use Rattle.codes.specs.Codes.{levelOf}
 use Rattle.annex.specs.declared.Figures.{Figures}
 use Rattle.annex.specs.declared.Step.{Step}
 use Rattle.annex.specs.Figures.{nothing, customersAt, halvesAt, withStep}
-use Rattle.annex.specs.Bounds.{Few}
+use Rattle.annex.specs.Inside.{Few}
 use Rattle.annex.proofs.FoldLaws.{each-level, step-customers, step-halves}
 use Rattle.annex.proofs.Bounds.{few-at}
 use Rattle.fields.specs.declared.Head.{Head}

@@ -10,7 +10,7 @@ use native.Mathlib.Omega.{arith}
 use borrow.Author.Tests.{eqb-true, eq-eqb, not-false}
 use Rattle.base.proofs.TestLaws.{or-left, or-right, or-both}
 use Rattle.annex.specs.Times.{minutesIn}
-use Rattle.annex.specs.Bounds.{Few}
+use Rattle.annex.specs.Inside.{Few}
 use Rattle.marks.specs.Marks.{mapSize}
 use Rattle.marks.proofs.MarkLaws.{markedWith-size}
 use Rattle.fields.specs.Fields.{headIn}
@@ -26,12 +26,11 @@ use Rattle.slot.specs.declared.Slot.{Slot}
 use Rattle.slot.specs.Slot.{freeSlot, openedBy, steppedBy}
 use Rattle.slot.specs.Sound.{openSound, slotSound}
 use Rattle.slot.proofs.SoundLaws.{free-sound, number-open}
-use Rattle.roll.specs.Desk.{slotCount, numberAt, deskSound, placeOf, slotOf}
-use Rattle.roll.specs.Roll.{numberIn}
+use Rattle.roll.specs.Desk.{slotCount, numberAt, deskSound, placeOf, slotOf, numberIn}
 use Rattle.roll.proofs.SearchLaws.{sound-at, desk-slots, desk-each, desk-differ, sound-set, found-number, place-held, absent-open, differ-apart}
 use Rattle.wire.specs.Frame.{kindOf}
 use Rattle.plan.specs.Rules.{lookAt, stepIn}
-use Rattle.plan.specs.Plan.{answerAt}
+use Rattle.plan.specs.Inside.{answerAt}
 use Rattle.plan.specs.Serve.{messageAnswer}
 use Rattle.plan.proofs.PlanLaws.{framed-by-kind, close-fits}
 use Rattle.day.specs.Day.{State, Arrival, message, entry, answerTo, after, afterAll, Sound}

@@ -9,7 +9,7 @@ use lib.ListN.{length, getD, replicate}
 use lib.Dec.{eqb}
 use native.Mathlib.Omega.{arith}
 use borrow.Author.Tests.{eqb-true, eqb-false, not-false}
-use Rattle.base.specs.Lists.{All}
+use Rattle.base.specs.Lists.{All, Bytes}
 use Rattle.base.proofs.TestLaws.{or-left}
 use Rattle.wire.specs.Frame.{kindOf}
 use Rattle.wire.specs.declared.Place.{Place}
@@ -18,22 +18,24 @@ use Rattle.wire.specs.Cut.{recordsOf, joined}
 use Rattle.wire.proofs.CutLaws.{Framed, cut-joined, joined-ends}
 use Rattle.marks.specs.Marks.{mapSize}
 use Rattle.fields.specs.Fields.{headIn}
+use Rattle.codec.proofs.EncodeLaws.{head-in-bytes, step-in-bytes}
+use Rattle.codec.proofs.DecodeLaws.{stepped-bytes, stepped-framed}
 use Rattle.ledger.specs.declared.Ledger.{Ledger}
 use Rattle.ledger.specs.Sound.{soundLedger}
 use Rattle.ledger.proofs.TakeLaws.{refused-hands-back}
 use Rattle.book.specs.Book as book
-use Rattle.book.specs.Book.{starting, takeAll, isBroken, afterBook}
+use Rattle.records.specs.Records.{isBroken}
+use Rattle.book.specs.Book.{starting, takeAll, afterBook}
 use Rattle.slot.specs.declared.Slot.{Slot}
 use Rattle.slot.specs.Slot.{freeSlot}
-use Rattle.roll.specs.Desk.{slotCount, emptyDesk, numberAt, numbersOf}
-use Rattle.roll.specs.Roll.{numberIn}
+use Rattle.roll.specs.Desk.{slotCount, emptyDesk, numberAt, numbersOf, numberIn}
 use Rattle.roll.proofs.SearchLaws.{desk-differ}
 use Rattle.plan.specs.Rules.{stepIn}
 use Rattle.plan.specs.Serve.{messageAnswer}
 use Rattle.plan.proofs.MessageLaws.{Opened, Stepped, Closed, opened, stepped, closed, refused-same, accepted-kind}
-use Rattle.day.specs.Day.{State, Arrival, message, entry, bytesOf, answerTo, after, afterAll, acceptedOf, Bytes}
-use Rattle.day.specs.Story.{Deed, opens, steps, closes, takes, messageIn, deedOf, eventIn, eventFor, about, openDeeds, openings, closings, recordOf, closedRecords, completeIn, completeRecords, markedAll, emptyDay, NothingOpen, Once}
-use Rattle.day.proofs.EncodeLaws.{Passed, head-in-bytes, step-in-bytes, record-bytes, record-framed, read-back}
+use Rattle.day.specs.Day.{State, Arrival, message, entry, bytesOf, answerTo, after, afterAll, acceptedOf}
+use Rattle.day.specs.Story.{Deed, opens, steps, closes, takes, messageIn, deedOf, eventIn, eventFor, about, openDeeds, openings, closings, recordOf, closedRecords, completeIn, completeRecords, markedAll, emptyDay, NothingOpen, Once, headFor, stepsFor}
+use Rattle.day.proofs.EncodeLaws.{Passed, read-back}
 use Rattle.day.proofs.StoryLaws.{all-map, all-of-map}
 use Rattle.day.proofs.OpenMarks.{all-none}
 use Rattle.day.proofs.Kept.{at, Told, Kept, open-next, step-next, close-next, entry-next}
@@ -210,13 +212,13 @@ module _ (l : Ledger) (m : List ℕ) (as′ : List Arrival) (b : All (λ a. Byte
       all-map
       (λ v (t : Told deeds v).
       let few : length (eventFor deeds v .steps) ≤ 64 = t .few in
-      (record-bytes (eventFor deeds v) (t .in-bytes) (omega arith), read-back (eventFor deeds v) (t .in-bytes)))
+      (stepped-bytes (headFor v deeds) (stepsFor v deeds) (omega arith), read-back (eventFor deeds v) (t .in-bytes)))
       (closings deeds) (kept .told)
 
   closed-framed : All Framed (closedRecords (acceptedOf (emptyDay l m) as′))
   closed-framed =
       all-of-map Framed (λ v. recordOf (eventFor deeds v)) (closings deeds)
-      (all-map (λ v (t : Told deeds v). record-framed (eventFor deeds v) (t .few)) (closings deeds) (kept .told))
+      (all-map (λ v (t : Told deeds v). stepped-framed (headFor v deeds) (stepsFor v deeds) (t .few)) (closings deeds) (kept .told))
 
   -- written one after the other the closed events' records are a book, which is cut into just these and ends at its end
   pub closed-in-a-book :

@@ -51,10 +51,6 @@ abbrev pub acceptedOf : State → List Arrival → List Arrival
 acceptedOf st [] = []
 acceptedOf st (a ∷ as′) = cond (eqb (answerTo st a) 0) (a ∷ acceptedOf (after st a) as′) (acceptedOf (after st a) as′)
 
--- each element is a byte
-abbrev pub Bytes : List ℕ → Type 0
-Bytes s = All (λ b. b < 256) s
-
 -- ledger and desk are sound, and the map has its size
 pub record Sound (st : State) : Type 0 where
   pub ledger : soundLedger (st .ledger) ≡ true

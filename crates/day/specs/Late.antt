@@ -16,8 +16,7 @@ use Rattle.record.specs.Rules.{unframed}
 use Rattle.record.specs.Rules as book
 use Rattle.slot.specs.declared.Slot.{Slot}
 use Rattle.slot.specs.Slot.{freeSlot, openedBy, steppedBy}
-use Rattle.roll.specs.Desk.{placeOf}
-use Rattle.roll.specs.Roll.{numberIn}
+use Rattle.roll.specs.Desk.{placeOf, numberIn}
 use Rattle.plan.specs.Rules.{lookAt}
 use Rattle.plan.specs.Rules as desk
 use Rattle.day.specs.Day.{State, Arrival, message, entry, bytesOf, answerTo, after, afterAll, acceptedOf}

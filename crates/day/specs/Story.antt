@@ -13,11 +13,11 @@ use Rattle.annex.specs.Stepped.{lastTime, steppedFigures}
 use Rattle.marks.specs.Marks.{markedWith}
 use Rattle.fields.specs.declared.Head.{Head}
 use Rattle.fields.specs.Fields.{headIn, stepsIn}
+use Rattle.codec.specs.Codec.{eventRecord}
 use Rattle.ledger.specs.declared.Ledger.{Ledger}
 use Rattle.slot.specs.declared.Slot.{Slot}
 use Rattle.slot.specs.Slot.{freeSlot}
-use Rattle.roll.specs.Desk.{emptyDesk, numberAt}
-use Rattle.roll.specs.Roll.{numberIn}
+use Rattle.roll.specs.Desk.{emptyDesk, numberAt, numberIn}
 use Rattle.plan.specs.Rules.{stepIn}
 use Rattle.day.specs.Day.{State, Arrival, message, entry}
 
@@ -94,28 +94,9 @@ about v ds = keep (names v) ds
 abbrev pub openDeeds : ℕ → Event → List Deed
 openDeeds v e = opens (e .head) ∷ map (λ st. steps v st) (e .steps)
 
--- "All numbers are unsigned and little-endian": a number of 2 and of 4 bytes, before what follows
-abbrev pub put16 : ℕ → List ℕ → List ℕ
-put16 x rest = x % 256 ∷ x / 256 % 256 ∷ rest
-
-abbrev pub put32 : ℕ → List ℕ → List ℕ
-put32 x rest = x % 256 ∷ x / 256 % 256 ∷ x / 65536 % 256 ∷ x / 16777216 % 256 ∷ rest
-
--- "number 2, type 1, voltage 1, cause 1, T0"
-abbrev pub putHead : Head → List ℕ → List ℕ
-putHead h rest = put16 (h .number) (h .typ ∷ h .voltage ∷ h .cause ∷ put32 (h .t0) rest)
-
--- "time, 3 counts"
-abbrev pub putStep : Step → List ℕ → List ℕ
-putStep st rest = put32 (st .time) (put32 (getD (st .counts) 0 0) (put32 (getD (st .counts) 1 0) (put32 (getD (st .counts) 2 0) rest)))
-
-abbrev pub putSteps : List Step → List ℕ
-putSteps [] = []
-putSteps (st ∷ ss) = putStep st (putSteps ss)
-
 -- "3 stepped event: number 2, type 1, voltage 1, cause 1, T0, step count 1, then per step: time, 3 counts; 14 + 16 x steps"
 abbrev pub recordOf : Event → List ℕ
-recordOf e = put16 (14 + 16 * length (e .steps)) (put16 3 (putHead (e .head) (length (e .steps) ∷ putSteps (e .steps))))
+recordOf e = eventRecord (e .head) (e .steps)
 
 -- "the closed events as kind 3 records in the order of closing"
 abbrev pub closedIn : List Deed → List (List ℕ)

@@ -16,9 +16,9 @@ use Rattle.roll.proofs.Roll.Laws as TRoll′
 use Rattle.ledger.specs.declared.Ledger.{Ledger}
 use Rattle.ledger.proofs.Ledger as TLedger
 use Rattle.ledger.proofs.Ledger.Laws as TLedger′
-use Rattle.ledger.specs.declared.Taken.{Taken}
-use Rattle.ledger.proofs.Taken as TTaken
-use Rattle.ledger.proofs.Taken.Laws as TTaken′
+use Rattle.plan.specs.declared.Served.{Served}
+use Rattle.plan.proofs.Served as TServed
+use Rattle.plan.proofs.Served.Laws as TServed′
 use Rattle.plan.specs.declared.Plan.{Plan}
 use Rattle.plan.proofs.Plan as TPlan
 use Rattle.plan.proofs.Plan.Laws as TPlan′
@@ -47,17 +47,17 @@ ledger-vals x = ledger-mach x ∷ []
 pub ledger-tells : Tells LedgerR (Is LedgerR) ledger-vals
 ledger-tells = LL.tells TLedger.the-type TLedger′.the-laws
 
-abbrev pub TakenR : RattleType
-TakenR = TTaken.the-row
+abbrev pub ServedR : RattleType
+ServedR = TServed.the-row
 
-abbrev pub taken-mach : Taken → Val
-taken-mach x = LL.tuple-val TTaken.the-type TTaken′.the-laws (TTaken.the-type .to x)
+abbrev pub served-mach : Served → Val
+served-mach x = LL.tuple-val TServed.the-type TServed′.the-laws (TServed.the-type .to x)
 
-abbrev pub taken-vals : Taken → List Val
-taken-vals x = taken-mach x ∷ []
+abbrev pub served-vals : Served → List Val
+served-vals x = served-mach x ∷ []
 
-pub taken-tells : Tells TakenR (Is TakenR) taken-vals
-taken-tells = LL.tells TTaken.the-type TTaken′.the-laws
+pub served-tells : Tells ServedR (Is ServedR) served-vals
+served-tells = LL.tells TServed.the-type TServed′.the-laws
 
 abbrev pub PlanR : RattleType
 PlanR = TPlan.the-row
@@ -84,11 +84,11 @@ module _ {M : Type 1} (𝓤 : URA M) (H : Heap 𝓤) (A : Atoms 𝓤) (W : Given
   pub ledger-typed : (x : Ledger) (w : Val) → Is LedgerR x (w ∷ []) → Holds (hasTy TLedger′.mir w) × WT w
   ledger-typed x w g = LL.lawful TLedger.the-type TLedger′.the-laws 𝓤 H A W .typed x (w ∷ []) g .0
 
-  pub taken-makes : Makes 𝓤 H A TakenR (Is TakenR)
-  taken-makes = LL.makes TTaken.the-type TTaken′.the-plain 𝓤 H A
+  pub served-makes : Makes 𝓤 H A ServedR (Is ServedR)
+  served-makes = LL.makes TServed.the-type TServed′.the-plain 𝓤 H A
 
-  pub taken-typed : (x : Taken) (w : Val) → Is TakenR x (w ∷ []) → Holds (hasTy TTaken′.mir w) × WT w
-  taken-typed x w g = LL.lawful TTaken.the-type TTaken′.the-laws 𝓤 H A W .typed x (w ∷ []) g .0
+  pub served-typed : (x : Served) (w : Val) → Is ServedR x (w ∷ []) → Holds (hasTy TServed′.mir w) × WT w
+  served-typed x w g = LL.lawful TServed.the-type TServed′.the-laws 𝓤 H A W .typed x (w ∷ []) g .0
 
   pub plan-makes : Makes 𝓤 H A PlanR (Is PlanR)
   plan-makes = LL.makes TPlan.the-type TPlan′.the-plain 𝓤 H A

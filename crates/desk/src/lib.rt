@@ -3,13 +3,13 @@
 ghost use mathlib.Core.Path.{_≡_};
 ghost use mathlib.Core.Bool.{true};
 ghost use lib.ListN.{length, getD, set};
-ghost use Rattle.roll.specs.Roll.{rollBy, rolled};
+ghost use Rattle.roll.specs.Inside.{rollBy, rolled};
 ghost use Rattle.plan.specs.Rules.{lookAt};
 ghost use Rattle.plan.specs.Plan.{planOf};
 ghost use Rattle.plan.specs.Serve.{servedOf, mapServed, deskServed};
 use ledger::Ledger;
-use ledger::Taken;
 use plan::Plan;
+use plan::Served;
 use roll::Roll;
 use slot::Slot;
 
@@ -56,14 +56,14 @@ fn planned(desk: &[Slot], ledger: Ledger, map: &[u8], bytes: &[u8]) -> Plan
 // One message: the answer number and the next ledger. An accepted open marks its number and takes the free slot of lowest index; an accepted step
 // changes the slot that holds its number; an accepted close adds its event to the ledger and frees its slot. A desk that is not 32 slots is refused
 // before a slot is looked at: what it is told to be may be more than there is.
-pub fn serve(ledger: Ledger, map: &mut [u8], desk: &mut [Slot], bytes: &[u8]) -> Taken
+pub fn serve(ledger: Ledger, map: &mut [u8], desk: &mut [Slot], bytes: &[u8]) -> Served
     ensures { λ r. ⌜ (r ≡ servedOf ledger (now (map .entry)) (now (desk .entry)) (now (bytes .entry))) × (now (map .exit) ≡ mapServed ledger (now (map .entry)) (now (desk .entry)) (now (bytes .entry))) × (now (desk .exit) ≡ deskServed ledger (now (map .entry)) (now (desk .entry)) (now (bytes .entry))) ⌝ }
 {
     if desk.len() != roll::SLOTS {
-        return Taken { answer: 1, ledger };
+        return Served { answer: 1, ledger };
     }
     let p = planned(desk, ledger, map, bytes);
     slot_put(desk, p.at, p.slot);
     marks::mark(map, p.number);
-    plan::taken_by(p)
+    plan::served_by(p)
 }

@@ -1,5 +1,4 @@
-pub mod PieceLaws
-pub mod MoveLaws
 pub mod FeedLaws
 pub mod LinkLaws
+pub mod CallLaws
 pub mod OneOutcome

@@ -1,112 +1,49 @@
 -- A book taken in pieces: "the year report reads one book from standard input", of any length, in constant memory.
-use Prim.Native.Nat.{ℕ, _+_, _-_}
-use mathlib.Core.List.{List, [], _∷_, _++_}
-use mathlib.Core.Bool.{Bool, true, false, _&&_, not, cond}
-use lib.ListN.{length, take, drop}
-use lib.Dec.{leb, ltb, eqb}
-use Rattle.base.specs.First.{Rule, first}
-use Rattle.wire.specs.Numbers.{le16}
-use Rattle.wire.specs.Cut.{recordsOf, stopFrom}
+use Prim.Native.Nat.{ℕ, _+_}
+use mathlib.Core.List.{List}
+use mathlib.Core.Bool.{Bool, true, false, _&&_, cond}
+use lib.ListN.{length}
+use lib.Dec.{eqb}
+use Rattle.records.specs.Pieces.{Held, heldOn, bufferOn, endAnswer, pieceAnswer}
+use Rattle.marks.specs.Marks.{mapSize}
 use Rattle.ledger.specs.declared.Ledger.{Ledger}
 use Rattle.ledger.specs.Sound.{soundLedger}
 use Rattle.book.specs.declared.Read.{Read}
-use Rattle.book.specs.Book.{State, takeAll}
+use Rattle.book.specs.Book.{State, takeRecord}
 use Rattle.feed.specs.declared.Feed.{Feed}
 use Rattle.feed.specs.declared.Fed.{Fed}
 
--- the bytes of a book past its whole records
-abbrev pub restOf : List ℕ → List ℕ
-restOf book = drop (stopFrom book 0) book
+-- a feed that begins: nothing is refused, and nothing held
+abbrev pub begunOf : Ledger → Feed
+begunOf l = record { ledger = l; refused = 0; held = 0; dead = false }
 
--- what is held states a length below 4: no record can follow
-abbrev pub deadRest : List ℕ → ℕ → Bool
-deadRest bytes held = leb 2 held && ltb (le16 bytes 0) 4
+-- the reading that a feed, with its map, holds; and back
+abbrev pub readingOf : Feed → List ℕ → Held State
+readingOf f m = record { state = record { ledger = f .ledger; map = m; refused = f .refused }; held = f .held; dead = f .dead }
 
--- a reading in pieces: the state after the records so far, and the bytes that are no whole record yet
-pub record Pieces : Type 0 where
-  pub state : State
-  pub rest : List ℕ
+abbrev pub feedOf : Held State → Feed
+feedOf h = record { ledger = h .state .ledger; refused = h .state .refused; held = h .held; dead = h .dead }
 
-abbrev pub beginning : Ledger → List ℕ → Pieces
-beginning l m = record { state = record { ledger = l; map = m; refused = 0 }; rest = [] }
-
--- one piece more: its bytes follow those that were held
-unfoldable pub fed : Pieces → List ℕ → Pieces
-fed p piece =
-    cond (deadRest (p .rest) (length (p .rest))) p
-    (record { state = takeAll (p .state) (recordsOf (p .rest ++ piece)); rest = restOf (p .rest ++ piece) })
-
-abbrev pub fedAll : Pieces → List (List ℕ) → Pieces
-fedAll p [] = p
-fedAll p (q ∷ qs) = fedAll (fed p q) qs
-
--- the bytes from start to end at the front, and what stood past them as it was
-unfoldable pub moved : List ℕ → ℕ → ℕ → List ℕ
-moved b start end =
-    cond (ltb (length b) end) b (drop start (take end b) ++ drop (end - start) b)
-
--- the most refused records that a feed goes on from: 2^62
-abbrev pub mostRefused : ℕ
-mostRefused = 4611686018427387904
-
--- numbers that stand for what 01's row 1 does not have: more refused records than that, and more bytes told than the buffer has
-abbrev pub manyRefused : ℕ
-manyRefused = 252
-
-abbrev pub moreTold : ℕ
-moreTold = 253
-
--- what a reading in pieces is refused for, at its end and at a piece: "The smallest number that applies is the answer"
-abbrev pub endRules : Bool → ℕ → List Rule
-endRules fit refused = (1, not fit) ∷ (manyRefused, ltb mostRefused refused) ∷ []
-
-abbrev pub endAnswer : Bool → ℕ → ℕ
-endAnswer fit refused = first (endRules fit refused)
-
-abbrev pub pieceRules : Bool → ℕ → ℕ → ℕ → List Rule
-pieceRules fit refused room filled = (1, not fit) ∷ (manyRefused, ltb mostRefused refused) ∷ (moreTold, ltb room filled) ∷ []
-
-abbrev pub pieceAnswer : Bool → ℕ → ℕ → ℕ → ℕ
-pieceAnswer fit refused room filled = first (pieceRules fit refused room filled)
-
--- what the code's call answers: 1 as a record's, for "map not 8,192 bytes, unsound ledger"
+-- what a piece is refused for: 1 as a record, for "map not 8,192 bytes, unsound ledger"
 abbrev pub fedAnswer : Feed → List ℕ → List ℕ → ℕ → ℕ
-fedAnswer f m b filled = pieceAnswer (eqb (length m) 8192 && soundLedger (f .ledger)) (f .refused) (length b) filled
+fedAnswer f m b filled = pieceAnswer (eqb (length m) mapSize && soundLedger (f .ledger)) (f .refused) (length b) filled
 
-abbrev pub taken : Feed → List ℕ → List ℕ → ℕ → Bool
-taken f m b filled = eqb (fedAnswer f m b filled) 0
-
--- the state of a feed, with its map
-abbrev pub stateOf : Feed → List ℕ → State
-stateOf f m = record { ledger = f .ledger; map = m; refused = f .refused }
-
-abbrev pub ran : Feed → List ℕ → List ℕ → ℕ → State
-ran f m b filled = takeAll (stateOf f m) (recordsOf (take filled b))
-
-abbrev pub heldAfter : List ℕ → ℕ → ℕ
-heldAfter b filled = filled - stopFrom (take filled b) 0
-
-unfoldable pub bufferFed : Feed → List ℕ → List ℕ → ℕ → List ℕ
-bufferFed f m b filled = cond (taken f m b filled) (cond (f .dead) b (moved b (stopFrom (take filled b) 0) filled)) b
-
-unfoldable pub mapFed : Feed → List ℕ → List ℕ → ℕ → List ℕ
-mapFed f m b filled = cond (taken f m b filled) (cond (f .dead) m (ran f m b filled .map)) m
+-- the reading with the records of the first `filled` bytes of a buffer, where they are taken
+abbrev pub readOn : Feed → List ℕ → List ℕ → ℕ → Held State
+readOn f m b filled = heldOn takeRecord (readingOf f m) b filled
 
 unfoldable pub fedOf : Feed → List ℕ → List ℕ → ℕ → Fed
 fedOf f m b filled =
-    cond (taken f m b filled)
-    (cond (f .dead) (record { answer = 0; feed = f })
-    (record {
-      answer = 0;
-      feed =
-          record {
-            ledger = ran f m b filled .ledger;
-            refused = ran f m b filled .refused;
-            held = heldAfter b filled;
-            dead = deadRest (moved b (stopFrom (take filled b) 0) filled) (heldAfter b filled);
-          };
-    }))
-    (record { answer = fedAnswer f m b filled; feed = f })
+    record {
+      answer = fedAnswer f m b filled;
+      feed = cond (eqb (fedAnswer f m b filled) 0) (feedOf (readOn f m b filled)) f;
+    }
+
+unfoldable pub mapFed : Feed → List ℕ → List ℕ → ℕ → List ℕ
+mapFed f m b filled = cond (eqb (fedAnswer f m b filled) 0) (readOn f m b filled .state .map) m
+
+unfoldable pub bufferFed : Feed → List ℕ → List ℕ → ℕ → List ℕ
+bufferFed f m b filled = cond (eqb (fedAnswer f m b filled) 0) (bufferOn (readingOf f m) b filled) b
 
 -- once the input has ended: an unsound ledger has no outcome; what is left over is a broken length, and "counts as one refusal"
 abbrev pub finishAnswer : Feed → ℕ

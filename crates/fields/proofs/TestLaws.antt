@@ -9,7 +9,7 @@ use borrow.Author.Tests.{ltb-true, leb-true, eqb-false, not-true}
 use Rattle.base.specs.Lists.{All}
 use Rattle.base.proofs.ChainLaws.{each-holds}
 use Rattle.codes.specs.Codes.{rowOf, levelOf, causeListed, rows, levels}
-use Rattle.annex.specs.Bounds.{Few}
+use Rattle.annex.specs.Inside.{Few}
 use Rattle.fields.specs.declared.Sheet.{Sheet}
 use Rattle.fields.specs.declared.Head.{Head}
 use Rattle.fields.specs.Tests.{inRange, headListed}

@@ -3,6 +3,7 @@ use mathlib.Core.Bool.{Bool, _&&_, not}
 use lib.ListN.{getD}
 use lib.Dec.{leb, ltb, eqb}
 use Rattle.codes.specs.Codes.{rowOf, levelOf, causeListed, rows, levels}
+use Rattle.codes.specs.Ranges.{mostCustomers}
 use Rattle.fields.specs.declared.Sheet.{Sheet}
 use Rattle.fields.specs.declared.Head.{Head}
 
@@ -11,9 +12,9 @@ abbrev pub inRange : Sheet → Bool
 inRange sheet =
     leb 2000 (sheet .year) &&
     leb (sheet .year) 2099 &&
-    leb (getD (sheet .totals) 0 0) 10000000 &&
-    leb (getD (sheet .totals) 1 0) 10000000 &&
-    leb (getD (sheet .totals) 2 0) 10000000
+    leb (getD (sheet .totals) 0 0) mostCustomers &&
+    leb (getD (sheet .totals) 1 0) mostCustomers &&
+    leb (getD (sheet .totals) 2 0) mostCustomers
 
 -- not "number 0, or a type, voltage or cause not listed"
 abbrev pub headListed : Head → Bool

@@ -94,9 +94,9 @@ impl Sheet {
         let n = self.totals;
         (2000 <= self.year)
             & (self.year <= 2099)
-            & (n[0] <= 10000000)
-            & (n[1] <= 10000000)
-            & (n[2] <= 10000000)
+            & (n[0] <= codes::MOST_CUSTOMERS)
+            & (n[1] <= codes::MOST_CUSTOMERS)
+            & (n[2] <= codes::MOST_CUSTOMERS)
     }
 }
 
@@ -106,8 +106,8 @@ impl Head {
         ensures { λ r. ⌜ r ≡ headListed self ⌝ }
     {
         (self.number != 0)
-            & (codes::row_of(self.typ) < codes::ROWS)
-            & (codes::level_of(self.voltage) < codes::LEVELS)
+            & (codes::row_of(self.typ) < codes::NO_ROW)
+            & (codes::level_of(self.voltage) < codes::NO_LEVEL)
             & codes::is_cause(self.cause)
     }
 }

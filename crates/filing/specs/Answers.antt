@@ -5,10 +5,12 @@ use mathlib.Core.Bool.{Bool, _||_, not}
 use lib.ListN.{length}
 use lib.Dec.{leb, ltb, eqb}
 use Rattle.base.specs.First.{first}
+use Rattle.codes.specs.Ranges.{latest}
 use Rattle.fields.specs.Fields.{sheetIn}
 use Rattle.fields.specs.Tests.{inRange}
 use Rattle.elements.specs.Elements.{elementListed}
 use Rattle.row.specs.declared.Row.{Row}
+use Rattle.row.specs.Row.{mostOutages}
 use Rattle.filing.specs.Fields.{codeIn, startIn, endIn, unitIn}
 
 -- a year sheet: 4 its length, 5 a second one in a file, 6 "year or a level total out of range"
@@ -22,8 +24,8 @@ outageAnswer seen r s =
     ((4, not (eqb (length s) 14)) ∷
     (5, not seen) ∷
     (7, not (elementListed (codeIn s))) ∷
-    (10, ltb (endIn s) (startIn s) || ltb 600000 (startIn s) || ltb 600000 (endIn s)) ∷
-    (15, leb 65535 (r .outages)) ∷ [])
+    (10, ltb (endIn s) (startIn s) || ltb latest (startIn s) || ltb latest (endIn s)) ∷
+    (15, leb mostOutages (r .outages)) ∷ [])
 
 -- a stock: 5 before its file's sheet or a second one of its code, 7 an unknown element or "a stock byte that is neither"
 abbrev pub stockAnswer : Bool → Row → List ℕ → ℕ

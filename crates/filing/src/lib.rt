@@ -35,10 +35,10 @@ pub fn outage_answer(seen: bool, row: Row, bytes: &[u8]) -> u8
     }
     let start = wire::u32_at(bytes, 6);
     let end = wire::u32_at(bytes, 10);
-    if (end < start) | (600000 < start) | (600000 < end) {
+    if (end < start) | (codes::LATEST < start) | (codes::LATEST < end) {
         return 10;
     }
-    if 65535 <= row.outages {
+    if row::MOST_OUTAGES <= row.outages {
         return 15;
     }
     0

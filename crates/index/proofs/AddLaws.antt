@@ -1,89 +1,65 @@
--- What the sums add up to: the network's are the levels', over all types they are the types', and the compliance figures and the types that
--- they leave out are all. Assumes nothing.
-use Prim.Native.Nat.{ℕ, zero, suc, _+_, _*_}
+-- What the sums add up to. Assumes nothing.
+use Prim.Native.Nat.{ℕ, zero, suc, _+_}
 use mathlib.Core.Path.{_≡_, refl, _∙_}
 use mathlib.Core.List.{List}
-use lib.ListN.{getD}
 use native.Mathlib.Omega.{arith}
-use Rattle.codes.specs.Codes.{rowOf, rowHeld}
+use Rattle.codes.specs.Codes.{rows, rowHeld}
 use Rattle.codes.specs.declared.Set.{Set}
 use Rattle.codes.specs.declared.Set.the-variants.{All, Std}
-use Rattle.annex.specs.Figures.{customers, halfMinutes}
+use Rattle.annex.specs.Figure.{Figure, Off, Halves}
 use Rattle.ledger.specs.declared.Cell.{Cell}
-use Rattle.ledger.specs.Ledger.{noCell}
+use Rattle.ledger.specs.declared.TypeRow.{TypeRow}
+use Rattle.ledger.specs.Ledger.{held}
+use Rattle.ledger.proofs.CellLaws.{by-figures}
 use Rattle.index.specs.declared.Level.{Level}
 use Rattle.index.specs.declared.Level.the-variants.{NN, VN, VVN, Network}
-use Rattle.index.specs.Sums.{plusCell, sumTo, levelSum, networkSum, totalOf, servedOf}
+use Rattle.index.specs.Sums.{plusCell, sumTo, cellAt, overLevels, levelSum, totalOf}
+use Rattle.index.specs.Parts.{Levels, typeSum, levelRest, restOf}
 
--- the network's customers, half minutes and N
-pub record Levels (cells : List Cell) (totals : List ℕ) (set : Set) : Type 0 where
-  pub customers :
-      totalOf cells Network set .customers .0 ≡
-      totalOf cells NN set .customers .0 + totalOf cells VN set .customers .0 + totalOf cells VVN set .customers .0
-  pub halves :
-      totalOf cells Network set .halves .0 ≡ totalOf cells NN set .halves .0 + totalOf cells VN set .halves .0 + totalOf cells VVN set .halves .0
-  pub served : servedOf totals Network ≡ servedOf totals NN + servedOf totals VN + servedOf totals VVN
-
-pub network-adds-levels : (cells : List Cell) (totals : List ℕ) (set : Set) → Levels cells totals set
-network-adds-levels cells totals set = record { customers = refl; halves = refl; served = refl }
-
--- two cells of the same figures
-same-figures : (a b : Cell) → a .customers .0 ≡ b .customers .0 → a .halves .0 ≡ b .halves .0 → a ≡ b
-same-figures a b p q = λ i. record { customers = customers (p i); halves = halfMinutes (q i) }
-
--- the cell of a row and a level
-abbrev pub cellAt : List Cell → ℕ → ℕ → Cell
-cellAt cells level row = getD cells (row * 3 + level) noCell
-
--- a type's three cells together
-abbrev pub typeSum : List Cell → ℕ → Cell
-typeSum cells row = plusCell (plusCell (cellAt cells 0 row) (cellAt cells 1 row)) (cellAt cells 2 row)
+pub network-adds-levels : (rs : List TypeRow) (totals : List ℕ) (set : Set) → Levels rs totals set
+network-adds-levels rs totals set = record { figures = both; served = refl }
+  where
+    both : (x : Figure) → held x (totalOf rs Network set) ≡ held x (totalOf rs NN set) + held x (totalOf rs VN set) + held x (totalOf rs VVN set)
+    both Off = refl
+    both Halves = refl
 
 -- 'all' leaves no row out
-pub level-adds-types : (cells : List Cell) (level : ℕ) → levelSum cells level All ≡ sumTo (cellAt cells level) 7
+pub level-adds-types : (rs : List TypeRow) (h : ℕ) → levelSum rs h All ≡ sumTo (cellAt rs h) rows
 unfolding levelSum rowHeld
-level-adds-types cells level = refl
+level-adds-types rs h = refl
 
 -- three sums, term by term
-sum-of-three :
-    (f g h : ℕ → Cell) (n : ℕ) →
-    plusCell (plusCell (sumTo f n) (sumTo g n)) (sumTo h n) ≡ sumTo (λ k. plusCell (plusCell (f k) (g k)) (h k)) n
-sum-of-three f g h zero = refl
-sum-of-three f g h (suc n) =
-    same-figures _ _ (omega arith) (omega arith) ∙ (λ i. plusCell (sum-of-three f g h n i) (plusCell (plusCell (f n) (g n)) (h n)))
+sum-of-three : (f : ℕ → ℕ → Cell) (n : ℕ) → overLevels (λ h. sumTo (f h) n) ≡ sumTo (λ k. overLevels (λ h. f h k)) n
+sum-of-three f zero = refl
+sum-of-three f (suc n) =
+    by-figures _ (plusCell (overLevels (λ h. sumTo (f h) n)) (overLevels (λ h. f h n))) across ∙
+    (λ i. plusCell (sum-of-three f n i) (overLevels (λ h. f h n)))
+  where
+    across : (x : Figure) → held x (overLevels (λ h. sumTo (f h) (suc n))) ≡ held x (plusCell (overLevels (λ h. sumTo (f h) n)) (overLevels (λ h. f h n)))
+    across Off = omega arith
+    across Halves = omega arith
 
-pub types-add-up : (cells : List Cell) → networkSum cells All ≡ sumTo (typeSum cells) 7
-types-add-up cells =
-    (λ i. plusCell (plusCell (level-adds-types cells 0 i) (level-adds-types cells 1 i)) (level-adds-types cells 2 i)) ∙
-    sum-of-three (cellAt cells 0) (cellAt cells 1) (cellAt cells 2) 7
+pub types-add-up : (rs : List TypeRow) → totalOf rs Network All ≡ sumTo (typeSum rs) rows
+types-add-up rs = (λ i. overLevels (λ h. level-adds-types rs h i)) ∙ sum-of-three (cellAt rs) rows
 
--- the cells of the types 13 to 16 on a level, and in the network
-abbrev pub levelRest : List Cell → ℕ → Cell
-levelRest cells level =
-    plusCell
-    (plusCell (plusCell (cellAt cells level (rowOf 13)) (cellAt cells level (rowOf 14))) (cellAt cells level (rowOf 15)))
-    (cellAt cells level (rowOf 16))
-
-abbrev pub restOf : List Cell → Level → Cell
-restOf cells NN = levelRest cells 0
-restOf cells VN = levelRest cells 1
-restOf cells VVN = levelRest cells 2
-restOf cells Network = plusCell (plusCell (levelRest cells 0) (levelRest cells 1)) (levelRest cells 2)
-
-pub level-std-and-rest : (cells : List Cell) (level : ℕ) → plusCell (levelSum cells level Std) (levelRest cells level) ≡ levelSum cells level All
-unfolding levelSum rowHeld rowOf
-level-std-and-rest cells level = same-figures _ _ (omega arith) (omega arith)
+pub level-std-and-rest : (rs : List TypeRow) (h : ℕ) → plusCell (levelSum rs h Std) (levelRest rs h) ≡ levelSum rs h All
+unfolding levelSum levelRest rowHeld
+level-std-and-rest rs h = by-figures _ _ both
+  where
+    both : (x : Figure) → held x (plusCell (levelSum rs h Std) (levelRest rs h)) ≡ held x (levelSum rs h All)
+    both Off = omega arith
+    both Halves = omega arith
 
 -- six cells, added two by two
-two-by-two :
-    (a b c d e f : Cell) →
-    plusCell (plusCell (plusCell a b) c) (plusCell (plusCell d e) f) ≡ plusCell (plusCell (plusCell a d) (plusCell b e)) (plusCell c f)
-two-by-two a b c d e f = same-figures _ _ (omega arith) (omega arith)
+two-by-two : (f g : ℕ → Cell) → plusCell (overLevels f) (overLevels g) ≡ overLevels (λ h. plusCell (f h) (g h))
+two-by-two f g = by-figures _ _ both
+  where
+    both : (x : Figure) → held x (plusCell (overLevels f) (overLevels g)) ≡ held x (overLevels (λ h. plusCell (f h) (g h)))
+    both Off = omega arith
+    both Halves = omega arith
 
-pub std-and-rest : (cells : List Cell) (level : Level) → plusCell (totalOf cells level Std) (restOf cells level) ≡ totalOf cells level All
-std-and-rest cells NN = level-std-and-rest cells 0
-std-and-rest cells VN = level-std-and-rest cells 1
-std-and-rest cells VVN = level-std-and-rest cells 2
-std-and-rest cells Network =
-    two-by-two (levelSum cells 0 Std) (levelSum cells 1 Std) (levelSum cells 2 Std) (levelRest cells 0) (levelRest cells 1) (levelRest cells 2) ∙
-    (λ i. plusCell (plusCell (level-std-and-rest cells 0 i) (level-std-and-rest cells 1 i)) (level-std-and-rest cells 2 i))
+pub std-and-rest : (rs : List TypeRow) (level : Level) → plusCell (totalOf rs level Std) (restOf rs level) ≡ totalOf rs level All
+std-and-rest rs NN = level-std-and-rest rs 0
+std-and-rest rs VN = level-std-and-rest rs 1
+std-and-rest rs VVN = level-std-and-rest rs 2
+std-and-rest rs Network = two-by-two (λ h. levelSum rs h Std) (levelRest rs) ∙ (λ i. overLevels (λ h. level-std-and-rest rs h i))

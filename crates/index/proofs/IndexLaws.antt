@@ -17,7 +17,7 @@ use Rattle.ratio.proofs.SameLaws.{same-transitive, product-same}
 use Rattle.codes.specs.Codes.{rowHeld}
 use Rattle.codes.specs.declared.Set.{Set}
 use Rattle.codes.specs.declared.Set.the-variants.{All, Unnamed}
-use Rattle.ledger.specs.declared.Cell.{Cell}
+use Rattle.ledger.specs.declared.TypeRow.{TypeRow}
 use Rattle.ledger.specs.declared.Ledger.{Ledger}
 use Rattle.ledger.specs.Sound.{soundLedger}
 use Rattle.index.specs.declared.Level.{Level}
@@ -27,21 +27,10 @@ use Rattle.index.specs.declared.Index.the-variants.{Saifi, Saidi, Caidi}
 use Rattle.index.specs.declared.Answer.{Answer}
 use Rattle.index.specs.declared.Answer.the-variants.{Is, Refused}
 use Rattle.index.specs.Sums.{levelSum, totalOf}
-use Rattle.index.specs.Index.{formulaOf, weightOf, nobody, indexOf}
+use Rattle.index.specs.Index.{formulaOf, weightOf, dividedBy, indexOf}
+use Rattle.index.specs.Answered.{Way, unsound, sheetless, divides-by-nobody, answered, Given, Exact}
 
--- the ways in which an index is answered
 module _ (l : Ledger) (index : Index) (level : Level) (set : Set) where
-  pub data Way (a : Answer) : Type 0 where
-    unsound : soundLedger l ≡ false → a ≡ Refused 1 → Way a
-    sheetless : soundLedger l ≡ true → l .sheet .there ≡ false → a ≡ Refused 5 → Way a
-    divides-by-nobody : soundLedger l ≡ true → l .sheet .there ≡ true → nobody l index level set ≡ 0 → a ≡ Refused 17 → Way a
-    answered :
-        soundLedger l ≡ true →
-        l .sheet .there ≡ true →
-        (nobody l index level set ≡ 0 → ⊥) →
-        a ≡ Is (lowestOf (formulaOf l index level set .top) (formulaOf l index level set .bottom)) →
-        Way a
-
   pub unsound-refused : soundLedger l ≡ false → indexOf l index level set ≡ Refused 1
   unfolding indexOf
   unsound-refused s = rw s
@@ -50,35 +39,35 @@ module _ (l : Ledger) (index : Index) (level : Level) (set : Set) where
   unfolding indexOf
   sheetless-refused s t = rw (s, t)
 
-  pub nobody-refused : soundLedger l ≡ true → l .sheet .there ≡ true → nobody l index level set ≡ 0 → indexOf l index level set ≡ Refused 17
+  pub nobody-refused : soundLedger l ≡ true → l .sheet .there ≡ true → dividedBy l index level set ≡ 0 → indexOf l index level set ≡ Refused 17
   unfolding indexOf
-  nobody-refused s t n = rw (s, t, eq-eqb (nobody l index level set) 0 n)
+  nobody-refused s t n = rw (s, t, eq-eqb (dividedBy l index level set) 0 n)
 
   pub somebody-answered :
       soundLedger l ≡ true →
       l .sheet .there ≡ true →
-      (nobody l index level set ≡ 0 → ⊥) →
+      (dividedBy l index level set ≡ 0 → ⊥) →
       indexOf l index level set ≡ Is (lowestOf (formulaOf l index level set .top) (formulaOf l index level set .bottom))
   unfolding indexOf
-  somebody-answered s t n = rw (s, t, ne-eqb (nobody l index level set) 0 n)
+  somebody-answered s t n = rw (s, t, ne-eqb (dividedBy l index level set) 0 n)
 
   -- the answer is of one of these ways, and of no other
-  pub index-exactly : Way (indexOf l index level set)
+  pub index-exactly : Way l index level set (indexOf l index level set)
   index-exactly = first (test (soundLedger l))
     where
-      third : soundLedger l ≡ true → l .sheet .there ≡ true → Tested (eqb (nobody l index level set) 0) → Way (indexOf l index level set)
+      third : soundLedger l ≡ true → l .sheet .there ≡ true → Tested (eqb (dividedBy l index level set) 0) → Way l index level set (indexOf l index level set)
       third s t (holds e) =
-          let n : nobody l index level set ≡ 0 = eqb-true (nobody l index level set) 0 e in
+          let n : dividedBy l index level set ≡ 0 = eqb-true (dividedBy l index level set) 0 e in
           divides-by-nobody s t n (nobody-refused s t n)
       third s t (fails e) =
-          let n : nobody l index level set ≡ 0 → ⊥ = eqb-false (nobody l index level set) 0 e in
+          let n : dividedBy l index level set ≡ 0 → ⊥ = eqb-false (dividedBy l index level set) 0 e in
           answered s t n (somebody-answered s t n)
 
-      second : soundLedger l ≡ true → Tested (l .sheet .there) → Way (indexOf l index level set)
-      second s (holds t) = third s t (test (eqb (nobody l index level set) 0))
+      second : soundLedger l ≡ true → Tested (l .sheet .there) → Way l index level set (indexOf l index level set)
+      second s (holds t) = third s t (test (eqb (dividedBy l index level set) 0))
       second s (fails t) = sheetless s t (sheetless-refused s t)
 
-      first : Tested (soundLedger l) → Way (indexOf l index level set)
+      first : Tested (soundLedger l) → Way l index level set (indexOf l index level set)
       first (holds s) = second s (test (l .sheet .there))
       first (fails s) = unsound s (unsound-refused s)
 
@@ -87,19 +76,6 @@ weighted-exists : (index : Index) (d : ℕ) → (d ≡ 0 → ⊥) → weightOf i
 weighted-exists Saifi d n e = n (omega arith)
 weighted-exists Saidi d n e = n (omega arith)
 weighted-exists Caidi d n e = n (omega arith)
-
--- what an answer that is a fraction says of the ledger
-pub record Given (l : Ledger) (index : Index) (level : Level) (set : Set) (f : Fraction) : Type 0 where
-  pub sound : soundLedger l ≡ true
-  pub there : l .sheet .there ≡ true
-  pub somebody : nobody l index level set ≡ 0 → ⊥
-  pub is : f ≡ lowestOf (formulaOf l index level set .top) (formulaOf l index level set .bottom)
-
--- the answer is in lowest terms and of the value of 01's formula, which exists
-pub record Exact (l : Ledger) (index : Index) (level : Level) (set : Set) (f : Fraction) : Type 0 where
-  pub lowest : Lowest f
-  pub same : Same f (formulaOf l index level set)
-  pub exists : formulaOf l index level set .bottom ≡ 0 → ⊥
 
 module _ (l : Ledger) (index : Index) (level : Level) (set : Set) (f : Fraction) (e : indexOf l index level set ≡ Is f) where
   refuses-no-fraction : (n : ℕ) → indexOf l index level set ≡ Refused n → ⊥
@@ -117,7 +93,7 @@ module _ (l : Ledger) (index : Index) (level : Level) (set : Set) (f : Fraction)
   pub index-exact : Exact l index level set f
   index-exact =
       let formula = formulaOf l index level set in
-      let exists : formula .bottom ≡ 0 → ⊥ = weighted-exists index (nobody l index level set) (fraction-says .somebody) in
+      let exists : formula .bottom ≡ 0 → ⊥ = weighted-exists index (dividedBy l index level set) (fraction-says .somebody) in
       record {
         lowest = rw (fraction-says .is) (lowest-lowest (formula .top) (formula .bottom) (omega (arith, exists)));
         same = rw (fraction-says .is) (lowest-same (formula .top) (formula .bottom));
@@ -156,20 +132,20 @@ caidi-times-saifi l level set a b p q =
       c,
       somebody-answered l Saidi level set (for-a .sound) (for-a .there) (for-a .somebody),
       same-transitive (product b a) (product caidi saifi) c (product-same b caidi a saifi (exact-b .same) (exact-a .same))
-          (same-transitive (product caidi saifi) saidi c (crossed (saidi .top) (saifi .top) (nobody l Saidi level set))
+          (same-transitive (product caidi saifi) saidi c (crossed (saidi .top) (saifi .top) (dividedBy l Saidi level set))
           (sym (lowest-same (saidi .top) (saidi .bottom)))
-          (weighted-exists Saidi (nobody l Saidi level set) (for-a .somebody)))
+          (weighted-exists Saidi (dividedBy l Saidi level set) (for-a .somebody)))
           (both-exist (caidi .bottom) (saifi .bottom) (exact-b .exists) (exact-a .exists)),
     )
 
 -- a request that names no set means 'all': of the sums, and of each index
-pub sums-unnamed : (cells : List Cell) (level : Level) → totalOf cells level Unnamed ≡ totalOf cells level All
+pub sums-unnamed : (rs : List TypeRow) (level : Level) → totalOf rs level Unnamed ≡ totalOf rs level All
 unfolding levelSum rowHeld
-sums-unnamed cells NN = refl
-sums-unnamed cells VN = refl
-sums-unnamed cells VVN = refl
-sums-unnamed cells Network = refl
+sums-unnamed rs NN = refl
+sums-unnamed rs VN = refl
+sums-unnamed rs VVN = refl
+sums-unnamed rs Network = refl
 
 pub unnamed-means-all : (l : Ledger) (index : Index) (level : Level) → indexOf l index level Unnamed ≡ indexOf l index level All
 unfolding indexOf
-unnamed-means-all l index level = rw (sums-unnamed (l .cells) level)
+unnamed-means-all l index level = rw (sums-unnamed (l .rows) level)

@@ -9,8 +9,10 @@ use Rattle.decimal.specs.declared.Shown.{Shown}
 use Rattle.decimal.specs.declared.Shown.the-variants as shown
 use Rattle.decimal.specs.Decimal.{shownOf}
 use Rattle.codes.specs.declared.Set.{Set}
+use Rattle.annex.specs.Figure.{Figure, Off, Halves}
 use Rattle.ledger.specs.declared.Cell.{Cell}
 use Rattle.ledger.specs.declared.Ledger.{Ledger}
+use Rattle.ledger.specs.Ledger.{held}
 use Rattle.ledger.specs.Sound.{soundLedger}
 use Rattle.index.specs.declared.Level.{Level}
 use Rattle.index.specs.declared.Index.{Index}
@@ -19,17 +21,20 @@ use Rattle.index.specs.declared.Answer.{Answer}
 use Rattle.index.specs.declared.Answer.the-variants.{Is, Refused}
 use Rattle.index.specs.Sums.{totalOf, servedOf}
 
--- above the line
+-- the figure above the line
+abbrev pub aboveOf : Index → Figure
+aboveOf Saifi = Off
+aboveOf Saidi = Halves
+aboveOf Caidi = Halves
+
 abbrev pub topOf : Index → Cell → ℕ
-topOf Saifi sum = sum .customers .0
-topOf Saidi sum = sum .halves .0
-topOf Caidi sum = sum .halves .0
+topOf index sum = held (aboveOf index) sum
 
 -- below the line: the customers served, or those interrupted
 abbrev pub divisorOf : Index → Cell → ℕ → ℕ
 divisorOf Saifi sum n = n
 divisorOf Saidi sum n = n
-divisorOf Caidi sum n = sum .customers .0
+divisorOf Caidi sum n = held Off sum
 
 -- half minutes are divided by twice the customers
 abbrev pub weightOf : Index → ℕ
@@ -37,24 +42,21 @@ weightOf Saifi = 1
 weightOf Saidi = 2
 weightOf Caidi = 2
 
+-- the customers that an index divides by; 17: "SAIFI or SAIDI with no customers, CAIDI with no customers interrupted"
+abbrev pub dividedBy : Ledger → Index → Level → Set → ℕ
+dividedBy l index level set = divisorOf index (totalOf (l .rows) level set) (servedOf (l .sheet .totals) level)
+
 -- 01's formula, before it is brought to lowest terms
 abbrev pub formulaOf : Ledger → Index → Level → Set → Fraction
 formulaOf l index level set =
-    record {
-      top = topOf index (totalOf (l .cells) level set);
-      bottom = weightOf index * divisorOf index (totalOf (l .cells) level set) (servedOf (l .sheet .totals) level);
-    }
-
--- 17: "SAIFI or SAIDI with no customers, CAIDI with no customers interrupted"
-abbrev pub nobody : Ledger → Index → Level → Set → ℕ
-nobody l index level set = divisorOf index (totalOf (l .cells) level set) (servedOf (l .sheet .totals) level)
+    record { top = topOf index (totalOf (l .rows) level set); bottom = weightOf index * dividedBy l index level set }
 
 -- "they check 1 (the ledger), 5 (no sheet), 17"
 unfoldable pub indexOf : Ledger → Index → Level → Set → Answer
 indexOf l index level set =
     cond (not (soundLedger l)) (Refused 1)
     (cond (not (l .sheet .there)) (Refused 5)
-    (cond (eqb (nobody l index level set) 0) (Refused 17)
+    (cond (eqb (dividedBy l index level set) 0) (Refused 17)
     (Is (lowestOf (formulaOf l index level set .top) (formulaOf l index level set .bottom)))))
 
 -- the answer in 01's numbers: 0, top and bottom; or the refusal

@@ -1,2 +1,5 @@
 pub mod Sums
+pub mod Inside
+pub mod Parts
 pub mod Index
+pub mod Answered

@@ -1,47 +1,50 @@
 -- The sums that an index is made of: over the rows of a set, of a level; "the network adds the levels' sums and the levels' N" (01, "Indices";
 -- 003, 4.3.2).
-use Prim.Native.Nat.{ℕ, zero, suc, _+_, _*_, _≤_}
+use Prim.Native.Nat.{ℕ, zero, suc, _+_}
 use mathlib.Core.List.{List}
 use mathlib.Core.Bool.{Bool, cond}
 use lib.ListN.{getD}
+use Rattle.codes.specs.Codes.{rows, rowHeld}
 use Rattle.codes.specs.declared.Set.{Set}
-use Rattle.codes.specs.Codes.{rowHeld, rows, levels}
-use Rattle.annex.specs.Figures.{customers, halfMinutes}
 use Rattle.ledger.specs.declared.Cell.{Cell}
-use Rattle.ledger.specs.Ledger.{noCell}
-use Rattle.ledger.specs.Sound.{Spare}
+use Rattle.ledger.specs.declared.TypeRow.{TypeRow}
+use Rattle.ledger.specs.Ledger.{noCell, noRow, held, cellBy}
 use Rattle.index.specs.declared.Level.{Level}
 use Rattle.index.specs.declared.Level.the-variants.{NN, VN, VVN, Network}
 
 -- customers to customers, half minutes to half minutes
 abbrev pub plusCell : Cell → Cell → Cell
-plusCell a b = record { customers = customers (a .customers .0 + b .customers .0); halves = halfMinutes (a .halves .0 + b .halves .0) }
+plusCell a b = cellBy (λ x. held x a + held x b)
 
 -- f 0 + f 1 + .. up to below n
 abbrev pub sumTo : (ℕ → Cell) → ℕ → Cell
 sumTo f zero = noCell
 sumTo f (suc n) = plusCell (sumTo f n) (f n)
 
+-- the cell of a level, in the row of a type
+abbrev pub cellAt : List TypeRow → ℕ → ℕ → Cell
+cellAt rs h row = getD (getD rs row noRow .levels) h noCell
+
 abbrev pub heldOr : Bool → Cell → Cell
-heldOr held c = cond held c noCell
+heldOr here c = cond here c noCell
 
--- a row's cell of a level, where the set holds the row
-abbrev pub heldCell : List Cell → ℕ → Set → ℕ → Cell
-heldCell cells level set row = heldOr (rowHeld set row) (getD cells (row * 3 + level) noCell)
+-- the same where the set holds the type
+abbrev pub heldCell : List TypeRow → ℕ → Set → ℕ → Cell
+heldCell rs h set row = heldOr (rowHeld set row) (cellAt rs h row)
 
--- Σ over the rows of the set
-unfoldable pub levelSum : List Cell → ℕ → Set → Cell
-levelSum cells level set = sumTo (heldCell cells level set) rows
+-- Σ over the types of the set
+unfoldable pub levelSum : List TypeRow → ℕ → Set → Cell
+levelSum rs h set = sumTo (heldCell rs h set) rows
 
--- Σ over the levels of the levels' sums
-abbrev pub networkSum : List Cell → Set → Cell
-networkSum cells set = plusCell (plusCell (levelSum cells 0 set) (levelSum cells 1 set)) (levelSum cells 2 set)
+-- of the levels' three cells
+abbrev pub overLevels : (ℕ → Cell) → Cell
+overLevels f = plusCell (plusCell (f 0) (f 1)) (f 2)
 
-abbrev pub totalOf : List Cell → Level → Set → Cell
-totalOf cells NN set = levelSum cells 0 set
-totalOf cells VN set = levelSum cells 1 set
-totalOf cells VVN set = levelSum cells 2 set
-totalOf cells Network set = networkSum cells set
+abbrev pub totalOf : List TypeRow → Level → Set → Cell
+totalOf rs NN set = levelSum rs 0 set
+totalOf rs VN set = levelSum rs 1 set
+totalOf rs VVN set = levelSum rs 2 set
+totalOf rs Network set = overLevels (λ h. levelSum rs h set)
 
 -- N of a level; the network's is the levels' together
 abbrev pub servedOf : List ℕ → Level → ℕ
@@ -49,7 +52,3 @@ servedOf totals NN = getD totals 0 0
 servedOf totals VN = getD totals 1 0
 servedOf totals VVN = getD totals 2 0
 servedOf totals Network = getD totals 0 0 + getD totals 1 0 + getD totals 2 0
-
--- every cell is as small as a sound ledger's
-abbrev pub Low : List Cell → Type 0
-Low cells = (i : ℕ) → Spare (getD cells i noCell)

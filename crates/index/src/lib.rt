@@ -1,14 +1,19 @@
 // SAIFI, SAIDI and CAIDI of a level or the network and a set of event types, as exact fractions in lowest terms and as decimals.
 ghost use mathlib.Core.Path.{_≡_};
-ghost use Prim.Native.Nat.{_+_, _≤_, _<_};
-ghost use Rattle.index.specs.Sums.{plusCell, heldOr, levelSum, totalOf, servedOf, Low};
+ghost use Prim.Native.Nat.{_≤_, _<_};
+ghost use Rattle.codes.specs.Codes.{levels};
+ghost use Rattle.index.specs.Sums.{plusCell, heldOr, levelSum, totalOf, servedOf};
+ghost use Rattle.index.specs.Inside.{Fit, Low};
 ghost use Rattle.index.specs.Index.{topOf, divisorOf, weightOf, indexOf, shownIndex};
 use annex::Customers;
 use annex::HalfMinutes;
+use codes::NO_ROW;
+use codes::ROWS;
 use codes::Set;
 use decimal::Shown;
 use ledger::Cell;
 use ledger::Ledger;
+use ledger::TypeRow;
 use ratio::Fraction;
 
 // A voltage level, or the whole network.
@@ -33,7 +38,7 @@ pub enum Answer {
 
 // Two sums, customers to customers and half minutes to half minutes.
 fn plus(a: Cell, b: Cell) -> Cell
-    requires { ⌜ (a .customers .0 ≤ 13762350000000) × (b .customers .0 ≤ 13762350000000) × (a .halves .0 + b .halves .0 ≤ 16514820000000000000) ⌝ }
+    requires { ⌜ Fit a b ⌝ }
     ensures { λ r. ⌜ r ≡ plusCell a b ⌝ }
 {
     Cell {
@@ -55,36 +60,38 @@ fn held_or(held: bool, cell: Cell) -> Cell
     }
 }
 
-// The cells of a level, over the rows of a set.
-fn level_sum(cells: [Cell; 21], level: usize, set: Set) -> Cell
-    requires { ⌜ (level < 3) × Low cells ⌝ }
-    ensures { λ r. ⌜ r ≡ levelSum cells level set ⌝ }
+// The cells of a level, over the types of a set.
+fn level_sum(rows: [TypeRow; ROWS], level: usize, set: Set) -> Cell
+    requires { ⌜ (level < levels) × Low rows ⌝ }
+    ensures { λ r. ⌜ r ≡ levelSum rows level set ⌝ }
 {
     let mut sum = Cell {
         customers: Customers(0),
         halves: HalfMinutes(0),
     };
     let mut row: u8 = 0;
-    while row < 7 {
-        let at = row as usize * 3 + level;
-        sum = plus(sum, held_or(codes::holds_row(set, row), cells[at]));
+    while row < NO_ROW {
+        let at = row as usize;
+        let held = rows[at];
+        let cells = held.levels;
+        sum = plus(sum, held_or(codes::holds_row(set, row), cells[level]));
         row += 1;
     }
     sum
 }
 
 // The sums of a level or, level by level, of the network.
-fn total_of(cells: [Cell; 21], level: Level, set: Set) -> Cell
-    requires { ⌜ Low cells ⌝ }
-    ensures { λ r. ⌜ r ≡ totalOf cells level set ⌝ }
+fn total_of(rows: [TypeRow; ROWS], level: Level, set: Set) -> Cell
+    requires { ⌜ Low rows ⌝ }
+    ensures { λ r. ⌜ r ≡ totalOf rows level set ⌝ }
 {
     match level {
-        Level::NN => level_sum(cells, 0, set),
-        Level::VN => level_sum(cells, 1, set),
-        Level::VVN => level_sum(cells, 2, set),
+        Level::NN => level_sum(rows, 0, set),
+        Level::VN => level_sum(rows, 1, set),
+        Level::VVN => level_sum(rows, 2, set),
         Level::Network => plus(
-            plus(level_sum(cells, 0, set), level_sum(cells, 1, set)),
-            level_sum(cells, 2, set),
+            plus(level_sum(rows, 0, set), level_sum(rows, 1, set)),
+            level_sum(rows, 2, set),
         ),
     }
 }
@@ -152,9 +159,9 @@ pub fn index_of(ledger: Ledger, index: Index, level: Level, set: Set) -> Answer
     if !sheet.there {
         return Answer::Refused(5);
     }
-    let cells = ledger.cells;
+    let rows = ledger.rows;
     let totals = sheet.totals;
-    let sum = total_of(cells, level, set);
+    let sum = total_of(rows, level, set);
     let d = divisor(index, sum, served(totals, level));
     if d == 0 {
         return Answer::Refused(17);

@@ -1,24 +1,23 @@
 -- The three ways that the taking of a piece goes: refused, nothing to take any more, taken. Assumes nothing.
-use mathlib.Core.Path.{_≡_, sym, _∙_}
+use mathlib.Core.Path.{_≡_, sym, ap, _∙_}
 use Prim.Native.Nat.{ℕ, _+_, _≤_}
 use native.Mathlib.Nat.{add-zero}
 use native.Mathlib.Omega.{arith}
 use mathlib.Core.Bool.{true, false}
 use mathlib.Core.List.{List}
-use lib.Dec.{eqb}
 use lib.ListN.{length, take, length-take}
-use borrow.Author.Tests.{eq-eqb, ne-eqb}
+use borrow.Author.Tests.{ne-eqb}
 use Rattle.wire.specs.Cut.{recordsOf, stopFrom}
-use Rattle.wire.proofs.AppendLaws.{stop-within}
-use Rattle.feed.specs.Feed.{mostRefused, deadRest, moved, heldAfter}
-use Rattle.feed.proofs.FeedLaws.{piece-clear}
+use Rattle.records.specs.Pieces.{mostRefused, deadRest, moved, Held, heldAfter, heldOn, bufferOn}
+use Rattle.records.proofs.AnswerLaws.{piece-clear}
+use Rattle.records.proofs.HeldLaws.{on-dead, on-more}
 use Rattle.table.specs.Table.{soundTable}
-use Rattle.yearly.specs.Yearly.{starting, takeAll, afterRecords}
+use Rattle.yearly.specs.Yearly.{State, starting, takeRecord, takeAll, afterRecords}
 use Rattle.yearly.proofs.RunLaws.{refused-below}
 use Rattle.yearly.proofs.AppendLaws.{refusedBefore, before-all}
 use Rattle.inflow.specs.declared.Inflow.{Inflow}
 use Rattle.inflow.specs.declared.Flowed.{Flowed}
-use Rattle.inflow.specs.Inflow.{flowAnswer, ran, bufferAfter, flowedOf}
+use Rattle.inflow.specs.Inflow.{readingOf, flowOf, flowAnswer, bufferAfter, flowedOf}
 
 module _ (f : Inflow) (b : List ℕ) (filled : ℕ) where
   -- what the call came to: its answer and the buffer
@@ -30,12 +29,15 @@ module _ (f : Inflow) (b : List ℕ) (filled : ℕ) where
   flow-refused z = let u = ne-eqb (flowAnswer f b filled) 0 z in (sym (rw u), sym (rw u))
 
   module _ (a : flowAnswer f b filled ≡ 0) where
-    u : eqb (flowAnswer f b filled) 0 ≡ true
-    u = eq-eqb (flowAnswer f b filled) 0 a
+    -- a piece that is not refused: the reading goes on
+    pub flowed-on : Comes (record { answer = 0; flow = flowOf (heldOn takeRecord (readingOf f) b filled) }) (bufferOn (readingOf f) b filled)
+    unfolding flowedOf bufferAfter
+    flowed-on = (sym (rw a), sym (rw a))
 
     pub flow-over : f .dead ≡ true → Comes (record { answer = 0; flow = f }) b
-    unfolding flowedOf bufferAfter
-    flow-over d = (sym (rw (u, d)), sym (rw (u, d)))
+    flow-over d =
+        let e = on-dead takeRecord (readingOf f) b filled d in
+        (ap (λ (h : Held State). record { answer = 0; flow = flowOf h }) (sym (e .0)) ∙ flowed-on .0, sym (e .1) ∙ flowed-on .1)
 
     -- what is not refused
     clear-piece : (soundTable (f .table) ≡ true) × (f .refused ≤ mostRefused) × (filled ≤ length b)
@@ -50,14 +52,11 @@ module _ (f : Inflow) (b : List ℕ) (filled : ℕ) where
     pub buffer-long : filled ≤ length b
     buffer-long = clear-piece .2
 
-    pub stop-before : stopFrom (take filled b) 0 ≤ filled
-    stop-before = omega (arith, stop-within (take filled b), length-take filled b)
-
     pub refused-of-piece : afterRecords (f .table) (take filled b) .refused ≤ length b
     refused-of-piece = omega (arith, refused-below (f .table) (take filled b), length-take filled b)
 
     -- the run from the inflow's state, by the run from none refused
-    ran-is : ran f b filled ≡ refusedBefore (f .refused) (afterRecords (f .table) (take filled b))
+    ran-is : takeAll (readingOf f .state) (recordsOf (take filled b)) ≡ refusedBefore (f .refused) (afterRecords (f .table) (take filled b))
     ran-is =
         (λ i. takeAll (record { table = f .table; refused = sym (add-zero (f .refused)) i }) (recordsOf (take filled b))) ∙
         before-all (f .refused) (starting (f .table)) (recordsOf (take filled b))
@@ -76,19 +75,14 @@ module _ (f : Inflow) (b : List ℕ) (filled : ℕ) where
               };
         })
         (moved b (stopFrom (take filled b) 0) filled)
-    unfolding flowedOf bufferAfter
-    flow-taken d = (
-      sym (rw (u, d)
-          (λ i.
-          record {
-            answer = 0;
-            flow =
-                record {
-                  table = ran-is i .table;
-                  refused = ran-is i .refused;
-                  held = heldAfter b filled;
-                  dead = deadRest (moved b (stopFrom (take filled b) 0) filled) (heldAfter b filled);
-                };
-          })),
-      sym (rw (u, d)),
-    )
+    flow-taken d =
+        let e = on-more takeRecord (readingOf f) b filled d in
+        let h : _ ≡ heldOn takeRecord (readingOf f) b filled =
+        (λ i.
+        record {
+          state = sym ran-is i;
+          held = heldAfter b filled;
+          dead = deadRest (moved b (stopFrom (take filled b) 0) filled) (heldAfter b filled);
+        }) ∙
+        sym (e .0) in
+        (ap (λ (h : Held State). record { answer = 0; flow = flowOf h }) h ∙ flowed-on .0, sym (e .1) ∙ flowed-on .1)

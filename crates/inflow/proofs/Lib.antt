@@ -1,4 +1,3 @@
 pub mod FlowLaws
-pub mod PieceLaws
 pub mod LinkLaws
 pub mod OneOutcome

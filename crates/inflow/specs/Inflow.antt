@@ -1,36 +1,17 @@
--- An element table "fed one or more yearly files" (02, K1), each of any length, in constant memory: a file taken in pieces. What is held, when no record
--- can follow it and how it is moved to the front are as of a book in pieces (crate feed).
+-- An element table "fed one or more yearly files" (02, K1), each of any length, in constant memory: a file taken in pieces.
 use Prim.Native.Nat.{ℕ, _+_}
-use mathlib.Core.List.{List, [], _∷_, _++_}
+use mathlib.Core.List.{List}
 use mathlib.Core.Bool.{true, false, cond}
-use lib.ListN.{length, take}
+use lib.ListN.{length}
 use lib.Dec.{eqb}
-use Rattle.wire.specs.Cut.{recordsOf, stopFrom}
-use Rattle.feed.specs.Feed.{restOf, deadRest, moved, endAnswer, pieceAnswer, heldAfter}
+use Rattle.records.specs.Pieces.{Held, heldOn, bufferOn, endAnswer, pieceAnswer}
+use Rattle.records.specs.Calls.{Call, Taker}
 use Rattle.table.specs.declared.Table.{Table}
 use Rattle.table.specs.Table.{soundTable, fileBegun}
 use Rattle.yearly.specs.declared.Reading.{Reading}
-use Rattle.yearly.specs.Yearly.{State, starting, takeAll}
+use Rattle.yearly.specs.Yearly.{State, takeRecord}
 use Rattle.inflow.specs.declared.Inflow.{Inflow}
 use Rattle.inflow.specs.declared.Flowed.{Flowed}
-
--- a reading in pieces: the state after the records so far, and the bytes that are no whole record yet
-pub record Pieces : Type 0 where
-  pub state : State
-  pub rest : List ℕ
-
-abbrev pub beginning : Table → Pieces
-beginning t = record { state = starting t; rest = [] }
-
--- one piece more: its bytes follow those that were held
-unfoldable pub fed : Pieces → List ℕ → Pieces
-fed p piece =
-    cond (deadRest (p .rest) (length (p .rest))) p
-    (record { state = takeAll (p .state) (recordsOf (p .rest ++ piece)); rest = restOf (p .rest ++ piece) })
-
-abbrev pub fedAll : Pieces → List (List ℕ) → Pieces
-fedAll p [] = p
-fedAll p (q ∷ qs) = fedAll (fed p q) qs
 
 -- an inflow that holds nothing
 abbrev pub fresh : Table → Inflow
@@ -40,37 +21,39 @@ fresh t = record { table = t; refused = 0; held = 0; dead = false }
 abbrev pub begunOf : Table → Flowed
 begunOf t = record { answer = fileBegun t .answer; flow = fresh (fileBegun t .table) }
 
--- what a piece is refused for, and the end: an unsound table (1), and as of a book in pieces
+-- the reading that an inflow holds; and back
+abbrev pub readingOf : Inflow → Held State
+readingOf f = record { state = record { table = f .table; refused = f .refused }; held = f .held; dead = f .dead }
+
+abbrev pub flowOf : Held State → Inflow
+flowOf h = record { table = h .state .table; refused = h .state .refused; held = h .held; dead = h .dead }
+
+-- what a piece is refused for, and the end: an unsound table (1), and what any reading in pieces is refused for
 abbrev pub flowAnswer : Inflow → List ℕ → ℕ → ℕ
 flowAnswer f b filled = pieceAnswer (soundTable (f .table)) (f .refused) (length b) filled
 
 abbrev pub finishAnswer : Inflow → ℕ
 finishAnswer f = endAnswer (soundTable (f .table)) (f .refused)
 
-abbrev pub stateOf : Inflow → State
-stateOf f = record { table = f .table; refused = f .refused }
-
-abbrev pub ran : Inflow → List ℕ → ℕ → State
-ran f b filled = takeAll (stateOf f) (recordsOf (take filled b))
-
-unfoldable pub bufferAfter : Inflow → List ℕ → ℕ → List ℕ
-bufferAfter f b filled = cond (eqb (flowAnswer f b filled) 0) (cond (f .dead) b (moved b (stopFrom (take filled b) 0) filled)) b
-
 unfoldable pub flowedOf : Inflow → List ℕ → ℕ → Flowed
 flowedOf f b filled =
-    cond (eqb (flowAnswer f b filled) 0)
-    (cond (f .dead) (record { answer = 0; flow = f })
-    (record {
-      answer = 0;
-      flow =
-          record {
-            table = ran f b filled .table;
-            refused = ran f b filled .refused;
-            held = heldAfter b filled;
-            dead = deadRest (moved b (stopFrom (take filled b) 0) filled) (heldAfter b filled);
-          };
-    }))
-    (record { answer = flowAnswer f b filled; flow = f })
+    record {
+      answer = flowAnswer f b filled;
+      flow = cond (eqb (flowAnswer f b filled) 0) (flowOf (heldOn takeRecord (readingOf f) b filled)) f;
+    }
+
+unfoldable pub bufferAfter : Inflow → List ℕ → ℕ → List ℕ
+bufferAfter f b filled = cond (eqb (flowAnswer f b filled) 0) (bufferOn (readingOf f) b filled) b
+
+-- the calls of a reading in pieces
+abbrev pub taker : Taker Inflow
+taker =
+    record {
+      holds = λ f. f .held;
+      answer = λ f c. flowAnswer f (c .buffer) (c .filled);
+      next = λ f c. flowedOf f (c .buffer) (c .filled) .flow;
+      left = λ f c. bufferAfter f (c .buffer) (c .filled);
+    }
 
 -- once the input has ended: an unsound table has no outcome; what is left over is a broken length, and counts as one refusal
 unfoldable pub finishedOf : Inflow → Reading

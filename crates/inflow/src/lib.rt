@@ -1,4 +1,4 @@
-// Taking a yearly file in pieces as they arrive, as crate feed takes a book: the whole records of what has arrived are taken, and the bytes of a record
+// Taking a yearly file in pieces as they arrive: the whole records of what has arrived are taken, and the bytes of a record
 // that is not whole yet are kept at the front of a lent buffer.
 ghost use mathlib.Core.Path.{_≡_};
 ghost use Rattle.inflow.specs.Inflow.{begunOf, flowedOf, bufferAfter, finishedOf};
@@ -38,13 +38,13 @@ pub fn begin(table: Table) -> Flowed
 }
 
 // Takes the whole records among the first `filled` bytes of the buffer. Nothing is changed where the answer is not 0: 1 for an unsound table,
-// `feed::MANY_REFUSED` for a count of refused records above `feed::MOST_REFUSED`, `feed::MORE_TOLD` for a buffer that is shorter than `filled`.
+// `records::MANY_REFUSED` for a count of refused records above `records::MOST_REFUSED`, `records::MORE_TOLD` for a buffer that is shorter than `filled`.
 pub fn take_piece(f: Inflow, buffer: &mut [u8], filled: usize) -> Flowed
     ensures { λ r. ⌜ (r ≡ flowedOf f (now (buffer .entry)) filled) × (now (buffer .exit) ≡ bufferAfter f (now (buffer .entry)) filled) ⌝ }
 {
     let t = f.table;
     let sound = t.sound();
-    let answer = feed::piece_answer(sound, f.refused, buffer.len(), filled);
+    let answer = records::piece_answer(sound, f.refused, buffer.len(), filled);
     if answer != 0 {
         return Flowed { answer, flow: f };
     }
@@ -54,26 +54,26 @@ pub fn take_piece(f: Inflow, buffer: &mut [u8], filled: usize) -> Flowed
     let run = yearly::take_records(t, wire::part(&buffer[..], 0, filled));
     let next = run.table;
     let held = filled - run.stop;
-    feed::move_to_front(buffer, run.stop, filled);
+    records::move_to_front(buffer, run.stop, filled);
     Flowed {
         answer: 0,
         flow: Inflow {
             table: next,
             refused: f.refused + run.refused,
             held,
-            dead: feed::is_dead(&buffer[..], held),
+            dead: records::is_dead(&buffer[..], held),
         },
     }
 }
 
-// The outcome once the input has ended: what is left over is a broken length, and counts as one refusal. 1 for an unsound table, `feed::MANY_REFUSED` for a
-// count of refused records above `feed::MOST_REFUSED`.
+// The outcome once the input has ended: what is left over is a broken length, and counts as one refusal. 1 for an unsound table, `records::MANY_REFUSED` for a
+// count of refused records above `records::MOST_REFUSED`.
 pub fn finish(f: Inflow) -> Reading
     ensures { λ r. ⌜ r ≡ finishedOf f ⌝ }
 {
     let t = f.table;
     let sound = t.sound();
-    let answer = feed::end_answer(sound, f.refused);
+    let answer = records::end_answer(sound, f.refused);
     if answer != 0 {
         return Reading {
             answer,

@@ -7,17 +7,17 @@ use mathlib.Core.Bool.{Bool, false, not}
 use lib.ListN.{getD}
 use lib.Dec.{eqb}
 use native.Mathlib.Omega.{arith}
-use Rattle.base.specs.Lists.{All, keep}
-use Rattle.base.proofs.ListLaws.{all-append, all-front, all-back}
+use Rattle.base.specs.Lists.{All, keep, Byte, Bytes}
+use Rattle.base.proofs.ListLaws.{all-append, all-front, all-back, all-kept, keep-append, keep-again}
 use Rattle.wire.specs.Numbers.{le16}
 use Rattle.wire.specs.Frame.{kindOf}
 use Rattle.wire.specs.Cut.{recordsOf, joined}
 use Rattle.wire.proofs.CutLaws.{Framed, cut-joined, records-framed}
-use Rattle.book.specs.Book.{isBroken}
+use Rattle.wire.proofs.ByteLaws.{bytes-each}
+use Rattle.records.specs.Records.{isBroken}
 use Rattle.sums.specs.Theorem.{eventsOf}
 use Rattle.order.proofs.ShapeLaws.{whole-joined}
-use Rattle.join.specs.Join.{Byte, Bytes, joinedBook}
-use Rattle.join.proofs.AppendLaws.{all-keep, keep-append, keep-again}
+use Rattle.join.specs.Join.{joinedBook}
 
 joined-append : (rs ss : List (List ℕ)) → joined (rs ++ ss) ≡ joined rs ++ joined ss
 joined-append [] ss = refl
@@ -27,7 +27,7 @@ module _ (book₁ book₂ : List ℕ) (whole : isBroken book₁ ≡ false) where
   all-framed : All Framed (recordsOf book₁ ++ eventsOf book₂)
   all-framed =
       all-append Framed (recordsOf book₁) (eventsOf book₂) (records-framed book₁)
-      (all-keep Framed (λ (s : List ℕ). not (eqb (kindOf s) 1)) (recordsOf book₂) (records-framed book₂))
+      (all-kept Framed (λ (s : List ℕ). not (eqb (kindOf s) 1)) (recordsOf book₂) (records-framed book₂))
 
   pub join-is : joined (recordsOf book₁ ++ eventsOf book₂) ≡ joinedBook book₁ book₂
   join-is = joined-append (recordsOf book₁) (eventsOf book₂) ∙ ap (λ (b : List ℕ). b ++ joined (eventsOf book₂)) (whole-joined book₁ whole)
@@ -41,18 +41,6 @@ module _ (book₁ book₂ : List ℕ) (whole : isBroken book₁ ≡ false) where
       ap (keep no-sheet) join-records ∙ keep-append no-sheet (recordsOf book₁) (eventsOf book₂) ∙
       ap (λ (es : List (List ℕ)). eventsOf book₁ ++ es) (keep-again no-sheet (recordsOf book₂))
 
--- the records of a book of bytes hold bytes, and a number in two bytes is at most 65,535
-bytes-each : (rs : List (List ℕ)) → Bytes (joined rs) → All Bytes rs
-bytes-each [] b = tt
-bytes-each (r ∷ rs) b = (all-front Byte r (joined rs) b, bytes-each rs (all-back Byte r (joined rs) b))
-
+-- the records of a book of bytes hold bytes
 pub bytes-records : (book : List ℕ) → isBroken book ≡ false → Bytes book → All Bytes (recordsOf book)
 bytes-records book whole b = bytes-each (recordsOf book) (subst Bytes (sym (whole-joined book whole)) b)
-
-byte-at : (s : List ℕ) (i : ℕ) → Bytes s → getD s i 0 < 256
-byte-at [] i b = omega arith
-byte-at (x ∷ s) zero b = b .0
-byte-at (x ∷ s) (suc i) b = byte-at s i (b .1)
-
-pub two-bytes : (s : List ℕ) (i : ℕ) → Bytes s → le16 s i ≤ 65535
-two-bytes s i b = omega (arith, byte-at s i b, byte-at s (i + 1) b)

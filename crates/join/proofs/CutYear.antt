@@ -8,8 +8,9 @@ use lib.ListN.{getD}
 use lib.Dec.{ltb}
 use native.Mathlib.Omega.{arith}
 use borrow.Author.Tests.{ltb-true}
-use Rattle.base.specs.Lists.{every}
+use Rattle.base.specs.Lists.{every, Bytes}
 use Rattle.base.proofs.TestLaws.{and-left, and-right}
+use Rattle.base.proofs.ListLaws.{bytes-by-test}
 use Rattle.wire.specs.Book.{placeAt}
 use Rattle.wire.specs.Cut.{cutIn, recordsOf, stopIn, stopFrom}
 use Rattle.codes.specs.Codes.{rowOf, levelOf, causes, causeListed, rowHeld}
@@ -18,7 +19,8 @@ use Rattle.annex.specs.Figures.{withStep}
 use Rattle.annex.specs.Simple.{simpleFigures}
 use Rattle.marks.specs.Marks.{marked, marking, markedWith}
 use Rattle.verdict.specs.Verdict.{eventVerdict}
-use Rattle.record.specs.Verdict.{answerAt, verdictAt, recordAnswer, verdictOf}
+use Rattle.record.specs.Inside.{answerAt, verdictAt}
+use Rattle.record.specs.Verdict.{recordAnswer, verdictOf}
 use Rattle.ledger.specs.Ledger.{emptyLedger, added}
 use Rattle.ledger.specs.Sound.{soundLedger}
 use Rattle.ledger.specs.Take.{answerOf, ledgerAfter, mapAfter}
@@ -29,14 +31,9 @@ use Rattle.index.specs.Sums.{levelSum}
 use Rattle.worked.specs.Worked.{year}
 use Rattle.order.specs.Turned.{first}
 use Rattle.order.proofs.ShapeLaws.{no-bytes-accepted}
-use Rattle.join.specs.Join.{Bytes, SharesNone, SameSheet, joinedBook, bookMap, JoinAdds}
+use Rattle.join.specs.Join.{SharesNone, SameSheet, joinedBook, bookMap, JoinAdds}
 use Rattle.join.specs.Parts.{with1, with23, with12, with3, fewer, figures}
 use Rattle.join.proofs.Joining.{join-adds}
-
--- the parts are books of bytes
-all-bytes : (s : List ℕ) → every (λ (b : ℕ). ltb b 256) s ≡ true → Bytes s
-all-bytes [] e = tt
-all-bytes (b ∷ s) e = let rest = every (λ (b : ℕ). ltb b 256) s in (ltb-true b 256 (and-left (ltb b 256) rest e), all-bytes s (and-right (ltb b 256) rest e))
 
 -- each is accepted
 parts-accepted : Accepted with1 × Accepted with23 × Accepted with12 × Accepted with3
@@ -57,12 +54,12 @@ joined-year = (refl, refl)
 pub cut-after-1 : JoinAdds with1 with23
 unfolding cutIn recordsOf
 cut-after-1 =
-    join-adds with1 with23 (all-bytes with1 refl) (all-bytes with23 refl) (parts-accepted .0) (parts-accepted .1) refl (refl, (refl, tt))
+    join-adds with1 with23 (bytes-by-test with1 refl) (bytes-by-test with23 refl) (parts-accepted .0) (parts-accepted .1) refl (refl, (refl, tt))
 
 pub cut-after-2 : JoinAdds with12 with3
 unfolding cutIn recordsOf
 cut-after-2 =
-    join-adds with12 with3 (all-bytes with12 refl) (all-bytes with3 refl) (parts-accepted .2) (parts-accepted .3) refl (refl, tt)
+    join-adds with12 with3 (bytes-by-test with12 refl) (bytes-by-test with3 refl) (parts-accepted .2) (parts-accepted .3) refl (refl, tt)
 
 -- which are, computed
 pub cut-figures :

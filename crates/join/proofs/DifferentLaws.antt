@@ -9,10 +9,9 @@ use lib.Dec.{eqb}
 use native.Mathlib.Omega.{arith}
 use borrow.Author.Tests.{eqb-true, eqb-false, ne-eqb}
 use Rattle.base.specs.Lists.{All, listed, keep}
-use Rattle.base.proofs.ListLaws.{all-append, all-back}
+use Rattle.base.proofs.ListLaws.{all-append, all-back, all-kept}
 use Rattle.base.proofs.TestLaws.{or-left, or-right, or-both}
 use Rattle.order.specs.Each.{Apart, Different}
-use Rattle.join.proofs.AppendLaws.{all-keep}
 
 abbrev Within : ℕ → ℕ → Type 0
 Within k x = (1 ≤ x) × (x ≤ k)
@@ -27,7 +26,7 @@ different-without k (x ∷ xs) d = go (eqb x k) (different-without k xs (d .1))
   where
     go : (t : Bool) → Different (without k xs) → Different (cond (not t) (x ∷ without k xs) (without k xs))
     go true h = h
-    go false h = (all-keep (Apart x) (λ (x : ℕ). not (eqb x k)) xs (d .0), h)
+    go false h = (all-kept (Apart x) (λ (x : ℕ). not (eqb x k)) xs (d .0), h)
 
 within-without : (k : ℕ) (xs : List ℕ) → All (Within (suc k)) xs → All (Within k) (without (suc k) xs)
 within-without k [] a = tt

@@ -11,27 +11,28 @@ use lib.Seq.{drop-at}
 use lib.Dec.{eqb}
 use native.Mathlib.Omega.{arith}
 use borrow.Author.Tests.{eqb-true, not-false}
-use Rattle.base.specs.Lists.{All, listed, keep}
+use Rattle.base.specs.Lists.{All, listed, keep, Bytes}
 use Rattle.base.proofs.ListLaws.{all-append}
 use Rattle.wire.specs.Frame.{kindOf}
 use Rattle.wire.specs.Cut.{cutIn, recordsOf, joined}
+use Rattle.wire.proofs.ByteLaws.{le16-below}
 use Rattle.marks.specs.Marks.{marked}
 use Rattle.fields.specs.declared.Sheet.{Sheet}
 use Rattle.fields.specs.Fields.{sheetIn}
 use Rattle.verdict.specs.Verdict.{eventVerdict}
 use Rattle.ledger.specs.declared.Ledger.{Ledger}
-use Rattle.ledger.specs.Ledger.{emptyLedger, cellOf, added}
+use Rattle.ledger.specs.Ledger.{emptyLedger, heldIn, added}
 use Rattle.book.specs.Book.{State, starting, takeAll, afterBook}
-use Rattle.sums.specs.Accepted.{zeroMap, Accepted, shortOnes, sumOfCustomers, sumOfHalves}
+use Rattle.sums.specs.Accepted.{zeroMap, Accepted, shortOnes, sumOf}
 use Rattle.sums.specs.Theorem.{eventsOf, bookLedger, IsSum}
 use Rattle.sums.proofs.AnnexTheorem.{accepted-book-adds}
 use Rattle.order.specs.Each.{Right, numberIn, Different, Unmarked, withEvent, withAll, allMarked, onlySheet, Told}
 use Rattle.order.proofs.EachLaws.{right-number, right-not-sheet}
 use Rattle.order.proofs.ShapeLaws.{Shape, no-bytes, sheet-then, accepted-shape, accepted-told, told-taken, told-end, told-accepted, told-counted}
-use Rattle.join.specs.Join.{Bytes, numbersIn, SharesNone, sheetsOf, SameSheet, joinedBook, bookMap, JoinAdds}
+use Rattle.join.specs.Join.{numbersIn, SharesNone, sheetsOf, SameSheet, joinedBook, bookMap, JoinAdds}
 use Rattle.join.proofs.DifferentLaws.{at-most, different-append, different-shares-none, none-listed}
-use Rattle.join.proofs.ByteLaws.{join-is, join-records, join-events, bytes-records, two-bytes}
-use Rattle.join.proofs.TotalLaws.{customers-append, halves-append, short-append}
+use Rattle.join.proofs.ByteLaws.{join-is, join-records, join-events, bytes-records}
+use Rattle.join.proofs.TotalLaws.{sums-append, short-append}
 use Rattle.join.proofs.MapLaws.{marks-append}
 
 -- the totals, once the joined book is accepted: each is a sum over events, and the events are those of the two
@@ -80,20 +81,13 @@ module _ (book₁ book₂ : List ℕ) (accepted₁ : Accepted book₁) (accepted
         short =
             adding (λ b. bookLedger b .short) (λ es. length (shortOnes es)) (sum-joined .short) (sum₁ .short) (sum₂ .short)
             (short-append (eventsOf book₁) (eventsOf book₂));
-        customers =
-            λ row h r c.
-            adding (λ b. cellOf (bookLedger b) row h .customers .0) (sumOfCustomers row h)
-            (sum-joined .customers row h r c)
-            (sum₁ .customers row h r c)
-            (sum₂ .customers row h r c)
-            (customers-append (eventsOf book₁) (eventsOf book₂) row h);
-        halves =
-            λ row h r c.
-            adding (λ b. cellOf (bookLedger b) row h .halves .0) (sumOfHalves row h)
-            (sum-joined .halves row h r c)
-            (sum₁ .halves row h r c)
-            (sum₂ .halves row h r c)
-            (halves-append (eventsOf book₁) (eventsOf book₂) row h);
+        cells =
+            λ x row h r c.
+            adding (λ b. heldIn x (bookLedger b) row h) (sumOf x row h)
+            (sum-joined .cells x row h r c)
+            (sum₁ .cells x row h r c)
+            (sum₂ .cells x row h r c)
+            (sums-append (eventsOf book₁) (eventsOf book₂) x row h);
         sheet₁ = sheet₁;
         sheet₂ = sheet₂;
         marks = marks;
@@ -109,7 +103,7 @@ numbers-within :
 numbers-within sheet [] there r b = tt
 numbers-within sheet (e ∷ es) there r b =
     let some : numberIn e ≢ 0 = right-number sheet e there (r .0) in
-    ((positive (numberIn e) some, two-bytes e 4 (b .0)), numbers-within sheet es there (r .1) (b .1))
+    ((positive (numberIn e) some, omega (arith, le16-below e (b .0) 4)), numbers-within sheet es there (r .1) (b .1))
   where
     positive : (v : ℕ) → v ≢ 0 → 1 ≤ v
     positive v n = omega arith
@@ -264,7 +258,7 @@ module _ (book₁ book₂ : List ℕ) (bytes₁ : Bytes book₁) (accepted₁ : 
     where
       below : (es : List (List ℕ)) → All Bytes es → All (λ (v : ℕ). v < 65536) (map numberIn es)
       below [] b = tt
-      below (e ∷ es) b = (omega (arith, two-bytes e 4 (b .0)), below es (b .1))
+      below (e ∷ es) b = (omega (arith, le16-below e (b .0) 4), below es (b .1))
 
       go : Shape book₁ → SharesNone book₁ book₂
       go (no-bytes e) =

@@ -1,4 +1,3 @@
-pub mod AppendLaws
 pub mod DifferentLaws
 pub mod ByteLaws
 pub mod TotalLaws

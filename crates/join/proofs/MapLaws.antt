@@ -11,6 +11,7 @@ use native.Mathlib.Omega.{arith}
 use borrow.Author.Tests.{eqb-true, eqb-false, ltb-true, ltb-false}
 use Rattle.base.specs.Lists.{any}
 use Rattle.base.proofs.TestLaws.{Tested, holds, fails, test}
+use Rattle.base.proofs.ListLaws.{any-append}
 use Rattle.marks.specs.Marks.{bitOf, marked, markedWith}
 use Rattle.marks.proofs.MarkLaws.{markedWith-zero, markedWith-same, markedWith-other, markedWith-past, markedWith-size}
 use Rattle.sums.specs.Accepted.{zeroMap}
@@ -47,10 +48,6 @@ mark-all m v (s ∷ ss) size =
     mark-all (markedWith m (numberIn s)) v ss (markedWith-size m (numberIn s) ∙ size) ∙
     ap (λ (t : Bool). t || rest) (mark-one m v (numberIn s) size) ∙
     or-assoc (marked m v) (hits v (numberIn s)) rest
-
-any-append : (f : List ℕ → Bool) (xs ys : List (List ℕ)) → any f (xs ++ ys) ≡ (any f xs || any f ys)
-any-append f [] ys = refl
-any-append f (x ∷ xs) ys = ap (λ (t : Bool). f x || t) (any-append f xs ys) ∙ sym (or-assoc (f x) (any f xs) (any f ys))
 
 -- the all-zero map marks nothing
 zeros : (n i : ℕ) → getD {A = ℕ} (replicate n 0) i 0 ≡ 0

@@ -6,25 +6,18 @@ use mathlib.Core.Bool.{Bool, _&&_, not}
 use lib.ListN.{length, length-append}
 use lib.Dec.{eqb}
 use Rattle.base.specs.Lists.{sum, keep}
-use Rattle.annex.specs.Annex.{njh, njhtjh2, shortEvent}
-use Rattle.sums.specs.Accepted.{eventIn, rowIn, shortOnes, sumOfCustomers, sumOfHalves}
-use Rattle.join.proofs.AppendLaws.{keep-append, sum-append}
-
--- a sum over those that pass
-sum-kept-append :
-    (f : List ℕ → Bool) (g : List ℕ → ℕ) (xs ys : List (List ℕ)) →
-    sum (map g (keep f (xs ++ ys))) ≡ sum (map g (keep f xs)) + sum (map g (keep f ys))
-sum-kept-append f g xs ys = ap (λ (zs : List (List ℕ)). sum (map g zs)) (keep-append f xs ys) ∙ sum-append g (keep f xs) (keep f ys)
+use Rattle.annex.specs.Annex.{shortEvent}
+use Rattle.annex.specs.Figure.{Figure, given}
+use Rattle.sums.specs.Accepted.{eventIn, rowIn, shortOnes, sumOf}
+use Rattle.base.proofs.ListLaws.{keep-append}
+use Rattle.base.proofs.SumLaws.{sum-append, sum-kept-append}
 
 abbrev counts : ℕ → List ℕ → Bool
 counts row = λ (s : List ℕ). eqb (rowIn s) row && not (shortEvent (eventIn s))
 
 module _ (xs ys : List (List ℕ)) where
-  pub customers-append : (row h : ℕ) → sumOfCustomers row h (xs ++ ys) ≡ sumOfCustomers row h xs + sumOfCustomers row h ys
-  customers-append row h = sum-kept-append (counts row) (λ (s : List ℕ). njh h (eventIn s)) xs ys
-
-  pub halves-append : (row h : ℕ) → sumOfHalves row h (xs ++ ys) ≡ sumOfHalves row h xs + sumOfHalves row h ys
-  halves-append row h = sum-kept-append (counts row) (λ (s : List ℕ). njhtjh2 h (eventIn s)) xs ys
+  pub sums-append : (x : Figure) (row h : ℕ) → sumOf x row h (xs ++ ys) ≡ sumOf x row h xs + sumOf x row h ys
+  sums-append x row h = sum-kept-append (counts row) (λ (s : List ℕ). given x h (eventIn s)) xs ys
 
   pub short-append : length (shortOnes (xs ++ ys)) ≡ length (shortOnes xs) + length (shortOnes ys)
   short-append = ap length (keep-append (λ (s : List ℕ). shortEvent (eventIn s)) xs ys) ∙ length-append (shortOnes xs) (shortOnes ys)

@@ -8,19 +8,14 @@ use lib.Dec.{eqb}
 use Rattle.base.specs.Lists.{All, listed, keep}
 use Rattle.wire.specs.Frame.{kindOf}
 use Rattle.wire.specs.Cut.{recordsOf, joined}
+use Rattle.codes.specs.Codes.{rows, levels}
+use Rattle.annex.specs.Figure.{Figure}
 use Rattle.marks.specs.Marks.{marked}
-use Rattle.ledger.specs.Ledger.{emptyLedger, cellOf}
+use Rattle.ledger.specs.Ledger.{emptyLedger, heldIn}
 use Rattle.book.specs.Book.{afterBook}
 use Rattle.sums.specs.Accepted.{zeroMap, Accepted}
 use Rattle.sums.specs.Theorem.{eventsOf, bookLedger, IsSum}
 use Rattle.order.specs.Each.{numberIn}
-
--- what a book holds are bytes, so that an event number, which has two, is at most 65,535
-abbrev pub Byte : ℕ → Type 0
-Byte b = b < 256
-
-abbrev pub Bytes : List ℕ → Type 0
-Bytes book = All Byte book
 
 -- the event numbers of a book's events
 abbrev pub numbersIn : List ℕ → List ℕ
@@ -57,18 +52,11 @@ pub record JoinAdds (book₁ book₂ : List ℕ) : Type 0 where
   pub all : eventsOf (joinedBook book₁ book₂) ≡ eventsOf book₁ ++ eventsOf book₂
   pub events : bookLedger (joinedBook book₁ book₂) .events ≡ bookLedger book₁ .events + bookLedger book₂ .events
   pub short : bookLedger (joinedBook book₁ book₂) .short ≡ bookLedger book₁ .short + bookLedger book₂ .short
-  pub customers :
-      (row h : ℕ) →
-      row < 7 →
-      h < 3 →
-      cellOf (bookLedger (joinedBook book₁ book₂)) row h .customers .0 ≡
-      cellOf (bookLedger book₁) row h .customers .0 + cellOf (bookLedger book₂) row h .customers .0
-  pub halves :
-      (row h : ℕ) →
-      row < 7 →
-      h < 3 →
-      cellOf (bookLedger (joinedBook book₁ book₂)) row h .halves .0 ≡
-      cellOf (bookLedger book₁) row h .halves .0 + cellOf (bookLedger book₂) row h .halves .0
+  pub cells :
+      (x : Figure) (row h : ℕ) →
+      row < rows →
+      h < levels →
+      heldIn x (bookLedger (joinedBook book₁ book₂)) row h ≡ heldIn x (bookLedger book₁) row h + heldIn x (bookLedger book₂) row h
   -- year and customers of each level stay
   pub sheet₁ : bookLedger (joinedBook book₁ book₂) .sheet ≡ bookLedger book₁ .sheet
   pub sheet₂ : bookLedger (joinedBook book₁ book₂) .sheet ≡ bookLedger book₂ .sheet

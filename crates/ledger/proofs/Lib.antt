@@ -1,3 +1,4 @@
+pub mod CellLaws
 pub mod LedgerLaws
 pub mod TakeLaws
 pub mod ExactlyThen

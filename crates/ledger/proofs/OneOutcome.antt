@@ -1,8 +1,10 @@
 -- No second outcome meets what a public function of this crate promises. Assumes nothing.
 use mathlib.Core.Path.{refl}
 use Rattle.base.proofs.OneOutcome.{OneOutcome, alike}
-use Rattle.ledger.proofs.Cell.grown.Kinds as grown-kinds
-use Rattle.ledger.proofs.Cell.grown.Reads as grown
+use Rattle.ledger.proofs.TypeRow.none.Kinds as none-kinds
+use Rattle.ledger.proofs.TypeRow.none.Reads as none
+use Rattle.ledger.proofs.TypeRow.grown.Kinds as grown-kinds
+use Rattle.ledger.proofs.TypeRow.grown.Reads as grown
 use Rattle.ledger.proofs.Ledger.empty.Kinds as empty-kinds
 use Rattle.ledger.proofs.Ledger.empty.Reads as empty
 use Rattle.ledger.proofs.Ledger.sound.Kinds as sound-kinds
@@ -11,6 +13,9 @@ use Rattle.ledger.proofs.Ledger.add.Kinds as add-kinds
 use Rattle.ledger.proofs.Ledger.add.Reads as add
 use Rattle.ledger.proofs.Ledger.take.Kinds as take-kinds
 use Rattle.ledger.proofs.Ledger.take.Reads as take
+
+pub none-one : OneOutcome none-kinds.ps none-kinds.r none.Post
+none-one κs a x y v w p q = (alike p q, refl)
 
 pub grown-one : OneOutcome grown-kinds.ps grown-kinds.r grown.Post
 grown-one κs a x y v w p q = (alike p q, refl)

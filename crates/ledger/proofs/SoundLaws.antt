@@ -9,7 +9,8 @@ use Rattle.base.proofs.TestLaws.{Tested, holds, fails, test}
 use Rattle.record.specs.Verdict.{verdictOf}
 use Rattle.record.proofs.FairLaws.{verdict-fair}
 use Rattle.ledger.specs.declared.Ledger.{Ledger}
-use Rattle.ledger.specs.Sound.{soundLedger, Fits}
+use Rattle.ledger.specs.Sound.{soundLedger}
+use Rattle.ledger.specs.Inside.{Fits}
 use Rattle.ledger.specs.Take.{answerOf, ledgerAfter}
 use Rattle.ledger.proofs.LedgerLaws.{sound-events, sound-range, sound-kept}
 use Rattle.ledger.proofs.TakeLaws.{accepted-adds, refused-hands-back}

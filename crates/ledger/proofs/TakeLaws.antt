@@ -1,6 +1,6 @@
 -- What taking a record does, by its answer: callers cite these laws and not the definitions. Assumes nothing.
 use Prim.Native.Nat.{ℕ}
-use mathlib.Core.Path.{_≡_, sym, _∙_, ap}
+use mathlib.Core.Path.{_≡_, sym, _∙_, ap, subst}
 use mathlib.Core.List.{List}
 use mathlib.Core.Bool.{true, false, cond}
 use lib.ListN.{length}
@@ -20,7 +20,8 @@ use Rattle.record.proofs.JudgeLaws.{verdict-refused, verdict-accepted}
 use Rattle.ledger.specs.declared.Ledger.{Ledger}
 use Rattle.ledger.specs.Ledger.{added}
 use Rattle.ledger.specs.Take.{unsound, answerOf, ledgerAfter, mapAfter}
-use Rattle.ledger.proofs.LedgerLaws.{added-refused, added-length}
+use Rattle.ledger.specs.Inside.{Shaped}
+use Rattle.ledger.proofs.CellLaws.{added-refused, added-shaped}
 
 module _ (l : Ledger) (m s : List ℕ) where
   abbrev verdict : Verdict
@@ -79,12 +80,12 @@ module _ (l : Ledger) (m s : List ℕ) where
       go (holds e) = ap length (accepted-adds (eqb-true _ _ e) .1) ∙ markedWith-size m (verdict .number)
       go (fails e) = ap length (refused-hands-back (eqb-false _ _ e) .1)
 
-  pub cells-length-kept : length (ledgerAfter l m s .cells) ≡ length (l .cells)
-  cells-length-kept = go (test (eqb (answerOf l m s) 0))
+  pub shape-kept : Shaped l → Shaped (ledgerAfter l m s)
+  shape-kept shaped = go (test (eqb (answerOf l m s) 0))
     where
-      go : Tested (eqb (answerOf l m s) 0) → length (ledgerAfter l m s .cells) ≡ length (l .cells)
-      go (holds e) = ap (λ (n : Ledger). length (n .cells)) (accepted-adds (eqb-true _ _ e) .0) ∙ added-length l verdict
-      go (fails e) = ap (λ (n : Ledger). length (n .cells)) (refused-hands-back (eqb-false _ _ e) .0)
+      go : Tested (eqb (answerOf l m s) 0) → Shaped (ledgerAfter l m s)
+      go (holds e) = subst Shaped (sym (accepted-adds (eqb-true _ _ e) .0)) (added-shaped l verdict shaped)
+      go (fails e) = subst Shaped (sym (refused-hands-back (eqb-false _ _ e) .0)) shaped
 
   -- a sheet is no event: it marks no number
   pub sheet-leaves-map : kindOf s ≡ 1 → mapAfter l m s ≡ m

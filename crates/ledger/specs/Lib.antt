@@ -1,3 +1,4 @@
 pub mod Ledger
 pub mod Sound
+pub mod Inside
 pub mod Take

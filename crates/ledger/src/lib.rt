@@ -4,11 +4,16 @@ ghost use mathlib.Core.Path.{_≡_};
 ghost use mathlib.Core.Bool.{_&&_};
 ghost use Prim.Native.Nat.{_≤_, _*_};
 ghost use Rattle.base.specs.Lists.{every};
-ghost use Rattle.ledger.specs.Ledger.{emptyLedger, grownBy, added};
-ghost use Rattle.ledger.specs.Sound.{cellWithin, sheetSound, soundLedger, Spare, Fits};
+ghost use Rattle.annex.specs.Figure.{Off, Halves, mostOf};
+ghost use Rattle.ledger.specs.Ledger.{emptyRow, emptyLedger, grownBy, grownLevels, grownRow, added};
+ghost use Rattle.ledger.specs.Sound.{cellWithin, rowWithin, sheetSound, soundLedger};
+ghost use Rattle.ledger.specs.Inside.{Spare, SpareRow, Small, Fits};
 ghost use Rattle.ledger.specs.Take.{takenOf, mapAfter};
 use annex::Customers;
+use annex::Figures;
 use annex::HalfMinutes;
+use codes::LEVELS;
+use codes::ROWS;
 use fields::Sheet;
 use verdict::Verdict;
 
@@ -21,12 +26,17 @@ pub struct Cell {
     pub halves: HalfMinutes,
 }
 
-// The cells stand row by row, three levels in each: the cell of row r and level h is cells[3 r + h].
+// The figures of one event type: NN, VN, VVN.
+pub struct TypeRow {
+    pub levels: [Cell; LEVELS],
+}
+
+// The rows stand in the order of the types' list.
 pub struct Ledger {
     pub sheet: Sheet,
     pub events: u16,
     pub short: u16,
-    pub cells: [Cell; 21],
+    pub rows: [TypeRow; ROWS],
 }
 
 // An answer number, and the next ledger.
@@ -37,8 +47,8 @@ pub struct Taken {
 
 impl Cell {
     // The cell with the figures of one event more.
-    pub fn grown(self, customers: Customers, halves: HalfMinutes) -> Cell
-        requires { ⌜ Spare self × (customers .0 ≤ 10000000) × (halves .0 ≤ 12000000000000) ⌝ }
+    fn grown(self, customers: Customers, halves: HalfMinutes) -> Cell
+        requires { ⌜ Spare self × (customers .0 ≤ mostOf Off) × (halves .0 ≤ mostOf Halves) ⌝ }
         ensures { λ r. ⌜ r ≡ grownBy self customers halves ⌝ }
     {
         Cell {
@@ -51,19 +61,72 @@ impl Cell {
     fn within(self, events: u16) -> bool
         ensures { λ r. ⌜ r ≡ cellWithin events self ⌝ }
     {
-        (self.customers.0 <= events as u64 * 10000000)
-            & (self.halves.0 <= events as u64 * 12000000000000)
+        (self.customers.0 <= events as u64 * annex::MOST_OFF)
+            & (self.halves.0 <= events as u64 * annex::MOST_HALVES)
     }
 }
 
-// Whether every cell is.
-fn cells_within(cells: [Cell; 21], events: u16) -> bool
-    ensures { λ r. ⌜ r ≡ every (cellWithin events) cells ⌝ }
+// The cells of a row, each with its own level's figures of one event more.
+fn grown_levels(c: [Cell; LEVELS], figures: Figures) -> [Cell; LEVELS]
+    requires { ⌜ SpareRow c × Small figures ⌝ }
+    ensures { λ r. ⌜ r ≡ grownLevels figures c ⌝ }
+{
+    let n = figures.customers;
+    let h = figures.halves;
+    [
+        c[0].grown(n[0], h[0]),
+        c[1].grown(n[1], h[1]),
+        c[2].grown(n[2], h[2]),
+    ]
+}
+
+// Whether each of a row's cells is within the bounds that so many events set.
+fn levels_within(c: [Cell; LEVELS], events: u16) -> bool
+    ensures { λ r. ⌜ r ≡ every (cellWithin events) c ⌝ }
+{
+    c[0].within(events) & c[1].within(events) & c[2].within(events)
+}
+
+impl TypeRow {
+    // Nothing on any level.
+    pub fn none() -> TypeRow
+        ensures { λ r. ⌜ r ≡ emptyRow ⌝ }
+    {
+        TypeRow {
+            levels: [Cell {
+                customers: Customers(0),
+                halves: HalfMinutes(0),
+            }; LEVELS],
+        }
+    }
+
+    // The row with the figures of one event more.
+    pub fn grown(self, figures: Figures) -> TypeRow
+        requires { ⌜ SpareRow (self .levels) × Small figures ⌝ }
+        ensures { λ r. ⌜ r ≡ grownRow self figures ⌝ }
+    {
+        let c = self.levels;
+        TypeRow {
+            levels: grown_levels(c, figures),
+        }
+    }
+
+    fn within(self, events: u16) -> bool
+        ensures { λ r. ⌜ r ≡ rowWithin events self ⌝ }
+    {
+        let c = self.levels;
+        levels_within(c, events)
+    }
+}
+
+// Whether every row is.
+fn rows_within(rows: [TypeRow; ROWS], events: u16) -> bool
+    ensures { λ r. ⌜ r ≡ every (rowWithin events) rows ⌝ }
 {
     let mut ok = true;
     let mut i = 0;
-    while i < 21 {
-        ok = ok & cells[i].within(events);
+    while i < ROWS {
+        ok = ok & rows[i].within(events);
         i += 1;
     }
     ok
@@ -87,10 +150,7 @@ impl Ledger {
             sheet: Sheet::none(),
             events: 0,
             short: 0,
-            cells: [Cell {
-                customers: Customers(0),
-                halves: HalfMinutes(0),
-            }; 21],
+            rows: [TypeRow::none(); ROWS],
         }
     }
 
@@ -99,11 +159,11 @@ impl Ledger {
         ensures { λ r. ⌜ r ≡ soundLedger self ⌝ }
     {
         let sheet = self.sheet;
-        let cells = self.cells;
+        let rows = self.rows;
         sheet_sound(sheet, self.events)
-            & (self.events <= 65535)
+            & (self.events <= codes::MOST_EVENTS)
             & (self.short <= self.events)
-            & cells_within(cells, self.events)
+            & rows_within(rows, self.events)
     }
 
     // The answer of a verdict, and the ledger with what the verdict adds.
@@ -111,17 +171,10 @@ impl Ledger {
         requires { ⌜ Fits self v ⌝ }
         ensures { λ r. ⌜ (r .answer ≡ v .answer) × (r .ledger ≡ added self v) ⌝ }
     {
-        let f = v.figures;
-        let n = f.customers;
-        let h = f.halves;
-        let at = v.row as usize * 3;
-        let nn = self.cells[at].grown(n[0], h[0]);
-        let vn = self.cells[at + 1].grown(n[1], h[1]);
-        let vvn = self.cells[at + 2].grown(n[2], h[2]);
+        let figures = v.figures;
         let sheet = v.sheet;
-        self.cells[at] = nn;
-        self.cells[at + 1] = vn;
-        self.cells[at + 2] = vvn;
+        let at = v.row as usize;
+        self.rows[at] = self.rows[at].grown(figures);
         self.sheet = sheet;
         self.events = self.events + v.events;
         self.short = self.short + v.short;

@@ -13,7 +13,7 @@ use Rattle.base.proofs.ChainLaws.{each-fails}
 use Rattle.annex.specs.declared.Simple.{Simple}
 use Rattle.annex.specs.declared.Step.{Step}
 use Rattle.annex.specs.Simple.{InOrder}
-use Rattle.annex.specs.Bounds.{Few, Ordered}
+use Rattle.annex.specs.Inside.{Few, Ordered}
 use Rattle.limits.specs.Limits.{exceeding, lateStep, anyLate, simpleLate}
 
 pub in-time : (before time : ℕ) → lateStep before time ≡ false → (before ≤ time) × (time ≤ 600000)

@@ -4,6 +4,7 @@ use mathlib.Core.List.{List, [], _∷_}
 use mathlib.Core.Bool.{Bool, false, _&&_, _||_, not}
 use lib.ListN.{getD}
 use lib.Dec.{ltb, eqb}
+use Rattle.codes.specs.Ranges.{latest}
 use Rattle.annex.specs.declared.Simple.{Simple}
 use Rattle.annex.specs.declared.Step.{Step}
 use Rattle.annex.specs.declared.Figures.{Figures}
@@ -28,7 +29,7 @@ figuresAbove level f = (ltb level 1 && ltb 0 (customersAt f 1)) || (ltb level 2 
 
 -- "no time is before the one before it"; "other times are at most 600,000"
 abbrev pub lateStep : ℕ → ℕ → Bool
-lateStep before time = ltb time before || ltb 600000 time
+lateStep before time = ltb time before || ltb latest time
 
 abbrev pub anyLate : ℕ → List Step → Bool
 anyLate before [] = false
@@ -40,9 +41,9 @@ simpleLate typ e =
     ltb (e .t1) (e .t0) ||
     ltb (e .t2) (e .t1) ||
     ltb (e .t3) (e .t2) ||
-    ltb 600000 (e .t3) ||
+    ltb latest (e .t3) ||
     ltb (e .t4) (e .t0) ||
-    ltb 600000 (e .t4) ||
+    ltb latest (e .t4) ||
     (eqb typ 2 && not (eqb (e .t1) (e .t0)))
 
 -- "n1 is 0 and n2 is not, on some level"

@@ -38,7 +38,7 @@ pub fn figures_above(figures: Figures, level: u8) -> bool
 pub fn is_late(time: u32, before: u32) -> bool
     ensures { λ r. ⌜ r ≡ lateStep before time ⌝ }
 {
-    (time < before) | (600000 < time)
+    (time < before) | (codes::LATEST < time)
 }
 
 // Whether a time of a simple event breaks a rule, apart from T0's place in the year.
@@ -48,9 +48,9 @@ pub fn is_simple_late(e: Simple, typ: u8) -> bool
     (e.t1 < e.t0)
         | (e.t2 < e.t1)
         | (e.t3 < e.t2)
-        | (600000 < e.t3)
+        | (codes::LATEST < e.t3)
         | (e.t4 < e.t0)
-        | (600000 < e.t4)
+        | (codes::LATEST < e.t4)
         | ((typ == 2) & (e.t1 != e.t0))
 }
 

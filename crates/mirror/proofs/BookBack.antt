@@ -11,7 +11,8 @@ use Rattle.shape.specs.Shape.{wholeOf, withinFrom, entryOf}
 use Rattle.line.specs.Line.{lineText, lineOf}
 use Rattle.unpack.specs.Unpack.{kindIn, valuesIn, unpackedOf, bytesEntry}
 use Rattle.pack.specs.Pack.{packedAs, packedOf}
-use Rattle.mirror.specs.Mirror.{lineBytes, Bytes}
+use Rattle.base.specs.Lists.{Bytes}
+use Rattle.mirror.specs.Mirror.{lineBytes}
 use Rattle.mirror.proofs.LineBack.{line-back}
 use Rattle.mirror.proofs.RecordBack.{Expressed, sheet, simple, stepped, expressed, record-back, record-whole, record-within, hex-back, hex-whole, hex-within}
 

@@ -1,10 +1,8 @@
-pub mod WireBack
 pub mod NumberBack
 pub mod ItemBack
 pub mod Written
 pub mod LineBack
 pub mod RecordBack
-pub mod FieldsBack
 pub mod BookBack
 pub mod TextBack
 pub mod NewlinesBack

@@ -8,13 +8,12 @@ use mathlib.Core.List.{List, [], _∷_, _++_, append-assoc}
 use lib.Dec.{eqb}
 use lib.ListN.{length, take, drop}
 use borrow.Author.Tests.{ne-eqb}
-use Rattle.base.specs.Lists.{All}
+use Rattle.base.specs.Lists.{All, Bytes}
 use Rattle.base.proofs.ListLaws.{all-append}
 use Rattle.wire.specs.Cut.{recordsOf, stopFrom}
 use Rattle.shape.specs.declared.Entry.{Entry}
 use Rattle.line.specs.Line.{lineOf}
 use Rattle.unpack.specs.Unpack.{kindIn, unpackedOf, bytesEntry, yearAfter}
-use Rattle.mirror.specs.Mirror.{Bytes}
 use Rattle.mirror.specs.Text.{bytesLinesIn, bytesLines, recordLines, bookLines, bookText, written, right, spoken}
 use Rattle.mirror.specs.Newlines.{textBytes, inFront, textLines, OneLine}
 use Rattle.mirror.proofs.Written.{newline-unwritten}

@@ -13,71 +13,17 @@ use native.Mathlib.Numerals.{add-one}
 use native.Mathlib.Nat.{add-suc, le-pred-of-lt}
 use borrow.Author.Tests.{ltb-false, le-ltb, le-leb, lt-leb, eqb-true, eqb-false, eq-eqb, ne-eqb}
 use Rattle.base.proofs.TestLaws.{Tested, holds, fails, test, and-both, and-right}
+use Rattle.base.proofs.ListLaws.{byte-at}
 use Rattle.wire.specs.Numbers.{byteAt, le16, le32}
 use Rattle.wire.specs.Frame.{framed, kindOf}
-use Rattle.fields.specs.Fields.{stepCount}
-use Rattle.pen.specs.Pen.{le2, le4}
+use Rattle.wire.proofs.ByteLaws.{le16-below, le32-below}
+use Rattle.fields.specs.Fields.{headIn, stepCount}
+use Rattle.codec.specs.Codec.{steppedRecord}
+use Rattle.codec.proofs.EncodeLaws.{foursFrom, fours-length, sheet-again, simple-again, stepped-again}
 use Rattle.shape.specs.Shape.{eventItem, itemOf, mostOf, wholeOf, limitOf, withinFrom}
-use Rattle.pack.specs.Pack.{oneEach, fourEach, frame, headBytes, sheetBytes, simpleBytes, stepsOf, steppedBytes, packedAs}
+use Rattle.pack.specs.Pack.{oneEach, sheetBytes, simpleBytes, stepsOf, steppedBytes, packedAs}
 use Rattle.unpack.specs.Unpack.{kindIn, countIn, valueIn, valuesRun, valuesIn}
-use Rattle.mirror.specs.Mirror.{Bytes}
-use Rattle.mirror.proofs.WireBack.{le2-written, le4-written}
-
--- a byte of bytes, also past their end
-pub byte-below : (s : List ℕ) → Bytes s → (at : ℕ) → byteAt s at < 256
-byte-below [] b at = omega arith
-byte-below (x ∷ s) b zero = b .0
-byte-below (x ∷ s) b (suc at) = byte-below s (b .1) at
-
--- so many numbers of 4 bytes, from an offset on
-abbrev pub foursFrom : List ℕ → ℕ → ℕ → List ℕ
-foursFrom s zero at = []
-foursFrom s (suc k) at = le32 s at ∷ foursFrom s k (at + 4)
-
-pub fours-length : (s : List ℕ) (k at : ℕ) → length (foursFrom s k at) ≡ k
-fours-length s zero at = refl
-fours-length s (suc k) at = ap suc (fours-length s k (at + 4))
-
-module _ (s : List ℕ) (b : Bytes s) where
-  pub le16-below : (at : ℕ) → le16 s at < 65536
-  le16-below at = omega (arith, byte-below s b at, byte-below s b (at + 1))
-
-  pub le32-below : (at : ℕ) → le32 s at < 4294967296
-  le32-below at = omega (arith, byte-below s b at, byte-below s b (at + 1), byte-below s b (at + 2), byte-below s b (at + 3))
-
-  -- a byte, and what stands behind it
-  first-byte : (at : ℕ) → at < length s → byteAt s at ∷ drop (at + 1) s ≡ drop at s
-  first-byte at h = ap (λ (n : ℕ). byteAt s at ∷ drop n s) (add-one at) ∙ sym (drop-cons s at 0 h)
-
-  next-byte : (at k : ℕ) → at + k < length s → byteAt s (at + k) ∷ drop (at + suc k) s ≡ drop (at + k) s
-  next-byte at k h = ap (λ (n : ℕ). byteAt s (at + k) ∷ drop n s) (add-suc at k) ∙ sym (drop-cons s (at + k) 0 h)
-
-  -- what is read at an offset, written again before what stands behind it
-  pub one-again : (at : ℕ) → at + 1 ≤ length s → byteAt s at % 256 ∷ drop (at + 1) s ≡ drop at s
-  one-again at h =
-      let e : byteAt s at % 256 ≡ byteAt s at = omega (arith, byte-below s b at) in
-      ap (λ (x : ℕ). x ∷ drop (at + 1) s) e ∙ first-byte at (omega arith)
-
-  pub two-again : (at : ℕ) → at + 2 ≤ length s → le2 (le16 s at) ++ drop (at + 2) s ≡ drop at s
-  two-again at h =
-      ap (λ (l : List ℕ). l ++ drop (at + 2) s) (le2-written (byteAt s at) (byteAt s (at + 1)) (byte-below s b at) (byte-below s b (at + 1)))
-      ∙ ap (λ (l : List ℕ). byteAt s at ∷ l) (next-byte at 1 (omega arith))
-      ∙ first-byte at (omega arith)
-
-  pub four-again : (at : ℕ) → at + 4 ≤ length s → le4 (le32 s at) ++ drop (at + 4) s ≡ drop at s
-  four-again at h =
-      ap (λ (l : List ℕ). l ++ drop (at + 4) s)
-      (le4-written (byteAt s at) (byteAt s (at + 1)) (byteAt s (at + 2)) (byteAt s (at + 3)) (byte-below s b at) (byte-below s b (at + 1))
-      (byte-below s b (at + 2)) (byte-below s b (at + 3)))
-      ∙ ap (λ (l : List ℕ). byteAt s at ∷ byteAt s (at + 1) ∷ byteAt s (at + 2) ∷ l) (next-byte at 3 (omega arith))
-      ∙ ap (λ (l : List ℕ). byteAt s at ∷ byteAt s (at + 1) ∷ l) (next-byte at 2 (omega arith))
-      ∙ ap (λ (l : List ℕ). byteAt s at ∷ l) (next-byte at 1 (omega arith))
-      ∙ first-byte at (omega arith)
-
-  -- numbers of 4 bytes up to the end
-  pub fours-again : (k at : ℕ) → at + 4 * k ≡ length s → fourEach (foursFrom s k at) ≡ drop at s
-  fours-again zero at e = sym (drop-of-length-le s {i = at} (omega arith))
-  fours-again (suc k) at e = ap (λ (l : List ℕ). le4 (le32 s at) ++ l) (fours-again k (at + 4) (omega arith)) ∙ four-again at (omega arith)
+use Rattle.base.specs.Lists.{Bytes}
 
 -- the records that a line expresses: their sort, and what holds of each
 pub data Expressed (s : List ℕ) : Type 0 where
@@ -163,60 +109,31 @@ module _ (s : List ℕ) where
 
 -- their bytes, from the first to the last
 module _ (s : List ℕ) (b : Bytes s) where
-  frame-again : 4 ≤ length s → frame (le16 s 0) (le16 s 2) ++ drop 4 s ≡ s
-  frame-again h = ap (λ (l : List ℕ). le2 (le16 s 0) ++ l) (two-again s b 2 h) ∙ two-again s b 0 (omega arith)
-
-  head-again : (vs : List ℕ) → 13 ≤ length s → headBytes (headValues s vs) ++ drop 13 s ≡ drop 4 s
-  unfolding headBytes
-  head-again vs h =
-      ap (λ (l : List ℕ). le2 (le16 s 4) ++ (byteAt s 6 % 256 ∷ byteAt s 7 % 256 ∷ byteAt s 8 % 256 ∷ l)) (four-again s b 9 h)
-      ∙ ap (λ (l : List ℕ). le2 (le16 s 4) ++ (byteAt s 6 % 256 ∷ byteAt s 7 % 256 ∷ l)) (one-again s b 8 (omega arith))
-      ∙ ap (λ (l : List ℕ). le2 (le16 s 4) ++ (byteAt s 6 % 256 ∷ l)) (one-again s b 7 (omega arith))
-      ∙ ap (λ (l : List ℕ). le2 (le16 s 4) ++ l) (one-again s b 6 (omega arith))
-      ∙ two-again s b 4 (omega arith)
-
-  sheet-again : le16 s 0 ≡ length s → le16 s 2 ≡ 1 → length s ≡ 18 → sheetBytes (le16 s 4 ∷ foursFrom s 3 6) ≡ s
+  sheet-line : le16 s 0 ≡ length s → le16 s 2 ≡ 1 → length s ≡ 18 → sheetBytes (le16 s 4 ∷ foursFrom s 3 6) ≡ s
   unfolding sheetBytes
-  sheet-again stated kind l =
-      let n : 18 ≡ le16 s 0 = omega arith in
-      (λ i. frame (n i) (sym kind i) ++ (le2 (le16 s 4) ++ fours-again s b 3 6 (sym l) i))
-      ∙ ap (λ (r : List ℕ). frame (le16 s 0) (le16 s 2) ++ r) (two-again s b 4 (omega arith))
-      ∙ frame-again (omega arith)
+  sheet-line = sheet-again s b
 
-  simple-again : le16 s 0 ≡ length s → le16 s 2 ≡ 2 → length s ≡ 53 → simpleBytes (headValues s (foursFrom s 10 13)) ≡ s
+  simple-line : le16 s 0 ≡ length s → le16 s 2 ≡ 2 → length s ≡ 53 → simpleBytes (headValues s (foursFrom s 10 13)) ≡ s
   unfolding simpleBytes
-  simple-again stated kind l =
-      let n : 53 ≡ le16 s 0 = omega arith in
-      let vs : List ℕ = foursFrom s 10 13 in
-      (λ i. frame (n i) (sym kind i) ++ (headBytes (headValues s vs) ++ fours-again s b 10 13 (sym l) i))
-      ∙ ap (λ (r : List ℕ). frame (le16 s 0) (le16 s 2) ++ r) (head-again vs (omega arith))
-      ∙ frame-again (omega arith)
+  simple-line = simple-again s b
 
   -- the line's steps are as many as the record says
-  steps-again : (k : ℕ) → stepsOf (headValues s (foursFrom s (4 * k) 14)) ≡ k
-  steps-again k = omega (arith, fours-length s (4 * k) 14)
-
-  stepped-again :
+  stepped-line :
       le16 s 0 ≡ length s → le16 s 2 ≡ 3 → length s ≡ 14 + 16 * stepCount s → steppedBytes (headValues s (foursFrom s (4 * stepCount s) 14)) ≡ s
   unfolding steppedBytes
-  stepped-again stated kind l =
-      let vs : List ℕ = headValues s (foursFrom s (4 * stepCount s) 14) in
-      let e : stepsOf vs ≡ stepCount s = steps-again (stepCount s) in
-      let n : 14 + 16 * stepsOf vs ≡ le16 s 0 = omega arith in
-      let to-end : 14 + 4 * (4 * stepCount s) ≡ length s = omega arith in
-      (λ i. frame (n i) (sym kind i) ++ (headBytes vs ++ (e i ∷ fours-again s b (4 * stepCount s) 14 to-end i)))
-      ∙ ap (λ (r : List ℕ). frame (le16 s 0) (le16 s 2) ++ (headBytes vs ++ r)) (first-byte s b 13 (omega arith))
-      ∙ ap (λ (r : List ℕ). frame (le16 s 0) (le16 s 2) ++ r) (head-again (foursFrom s (4 * stepCount s) 14) (omega arith))
-      ∙ frame-again (omega arith)
+  stepped-line stated kind l =
+      let numbers : List ℕ = foursFrom s (4 * stepCount s) 14 in
+      let e : stepsOf (headValues s numbers) ≡ stepCount s = omega (arith, fours-length s (4 * stepCount s) 14) in
+      (λ i. steppedRecord (headIn s) (e i) numbers) ∙ stepped-again s b stated kind l
 
   again : Expressed s → packedAs (kindIn s) (valuesIn s) ≡ s
   unfolding packedAs
   again (sheet k stated kind l) =
-      ap (λ (n : ℕ). packedAs n (valuesRun (countIn s n) s n 0)) k ∙ ap sheetBytes (sheet-values s) ∙ sheet-again stated kind l
+      ap (λ (n : ℕ). packedAs n (valuesRun (countIn s n) s n 0)) k ∙ ap sheetBytes (sheet-values s) ∙ sheet-line stated kind l
   again (simple k stated kind l) =
-      ap (λ (n : ℕ). packedAs n (valuesRun (countIn s n) s n 0)) k ∙ ap simpleBytes (simple-values s) ∙ simple-again stated kind l
+      ap (λ (n : ℕ). packedAs n (valuesRun (countIn s n) s n 0)) k ∙ ap simpleBytes (simple-values s) ∙ simple-line stated kind l
   again (stepped k stated kind l low high) =
-      ap (λ (n : ℕ). packedAs n (valuesRun (countIn s n) s n 0)) k ∙ ap steppedBytes (stepped-values s high) ∙ stepped-again stated kind l
+      ap (λ (n : ℕ). packedAs n (valuesRun (countIn s n) s n 0)) k ∙ ap steppedBytes (stepped-values s high) ∙ stepped-line stated kind l
 
   pub record-back : eqb (kindIn s) 0 ≡ false → packedAs (kindIn s) (valuesIn s) ≡ s
   record-back some = again (expressed s some)
@@ -251,7 +168,7 @@ module _ (s : List ℕ) (b : Bytes s) where
         go (fails past) (holds z) (holds one) code t0 two = rw (past, z, no-hex, one) (le-pred-of-lt (le16-below s b 4))
         go (fails past) (holds z) (fails one) code t0 two = rw (past, z, no-hex, one) (le-pred-of-lt (le16-below s b 4))
         go (fails past) (fails z) (holds one) code t0 two = rw (past, z, no-hex, one) (le-pred-of-lt (le32-below s b (4 * k + 2)))
-        go (fails past) (fails z) (fails one) (holds code) t0 two = rw (past, z, no-hex, one, code) (le-pred-of-lt (byte-below s b (k + 5)))
+        go (fails past) (fails z) (fails one) (holds code) t0 two = rw (past, z, no-hex, one, code) (le-pred-of-lt (byte-at s b (k + 5)))
         go (fails past) (fails z) (fails one) (fails code) (holds t0) two = rw (past, z, no-hex, one, code, t0) (le-pred-of-lt (le32-below s b 9))
         go (fails past) (fails z) (fails one) (fails code) (fails t0) (holds two) =
             rw (past, z, no-hex, one, code, t0, two) (within-four (ltb k 9) (le32 s (4 * k - 7)) (le32-below s b (4 * k - 7)))

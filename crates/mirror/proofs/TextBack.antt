@@ -10,7 +10,7 @@ use lib.ListN.{length, take, drop, length-take, length-drop, take-append-drop}
 use native.Mathlib.Omega.{arith}
 use native.Mathlib.Nat.{le-refl}
 use borrow.Author.Tests.{eqb-true, eqb-false, ne-eqb}
-use Rattle.base.specs.Lists.{All}
+use Rattle.base.specs.Lists.{All, Bytes}
 use Rattle.base.proofs.TestLaws.{Tested, holds, fails, test}
 use Rattle.base.proofs.ListLaws.{all-append, all-front, all-back}
 use Rattle.wire.specs.Cut.{recordsOf, stopFrom, joined}
@@ -23,7 +23,7 @@ use Rattle.line.specs.Line.{itemText, gapText, itemsText, lineOf}
 use Rattle.unpack.specs.Unpack.{kindIn, valuesIn, unpackedOf, bytesEntry, yearAfter}
 use Rattle.unpack.proofs.UnpackLaws.{year-kept, year-none}
 use Rattle.pack.specs.Pack.{packedOf}
-use Rattle.mirror.specs.Mirror.{lineBytes, Bytes}
+use Rattle.mirror.specs.Mirror.{lineBytes}
 use Rattle.mirror.specs.Text.{bytesLinesIn, bytesLines, recordLines, bookLines, bookText, yearOn, writtenFrom, written, rightFrom, right, silent, spoken}
 use Rattle.mirror.proofs.LineBack.{word-gapless, word-goes-on, line-back}
 use Rattle.mirror.proofs.RecordBack.{expressed, record-whole, record-within, hex-back, hex-whole, hex-within}

@@ -10,7 +10,3 @@ use Rattle.pack.specs.Pack.{packedOf}
 -- the bytes of a line, under the year of the sheet before it; none of a line that is refused
 abbrev pub lineBytes : List ℕ → ℕ → List ℕ
 lineBytes line year = cond (eqb (parsedOf line year .answer) 0) (packedOf (parsedOf line year .entry)) []
-
--- numbers that are bytes
-abbrev pub Bytes : List ℕ → Type 0
-Bytes s = All (λ (b : ℕ). b < 256) s

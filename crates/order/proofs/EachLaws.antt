@@ -12,9 +12,12 @@ use native.Mathlib.Omega.{arith}
 use borrow.Author.Tests.{eqb-true, eqb-false, eq-eqb, leb-false, lt-leb, ltb-true, ltb-false, not-true, not-false}
 use Rattle.base.specs.First.{Clear}
 use Rattle.base.specs.Lists.{All}
-use Rattle.base.proofs.FirstLaws.{unclear}
+use Rattle.base.proofs.FirstLaws.{unclear, clear-at}
 use Rattle.base.proofs.TestLaws.{Tested, holds, fails, test, and-left, and-both}
 use Rattle.wire.specs.Frame.{kindOf}
+use Rattle.records.proofs.TakeLaws.{first-accepted}
+use Rattle.codes.specs.Codes.{rows, levels}
+use Rattle.annex.specs.Figure.{Figure}
 use Rattle.marks.specs.Marks.{marked, markedWith}
 use Rattle.marks.proofs.MarkLaws.{markedWith-same, markedWith-other, markedWith-past, markedWith-size}
 use Rattle.fields.specs.declared.Sheet.{Sheet}
@@ -27,15 +30,16 @@ use Rattle.record.specs.Verdict.{acceptedAt, recordAnswer}
 use Rattle.record.proofs.JudgeLaws.{accepted-clear}
 use Rattle.record.proofs.FairLaws.{kind-taken}
 use Rattle.ledger.specs.declared.Ledger.{Ledger}
-use Rattle.ledger.specs.Ledger.{cellOf, added}
+use Rattle.ledger.specs.Ledger.{heldIn, added}
+use Rattle.ledger.specs.Inside.{Shaped}
 use Rattle.ledger.specs.Sound.{soundLedger}
 use Rattle.ledger.specs.Take.{answerOf, ledgerAfter, mapAfter}
 use Rattle.ledger.proofs.LedgerLaws.{sound-events}
 use Rattle.ledger.proofs.TakeLaws.{answer-judged, accepted-verdict, accepted-adds}
 use Rattle.ledger.proofs.SoundLaws.{sound-stays-sound}
 use Rattle.book.specs.Book.{State, takeRecord, takeAll}
-use Rattle.book.proofs.RunLaws.{sound-taken}
-use Rattle.sums.specs.Accepted.{acceptedEvents, shortOnes, sumOfCustomers, sumOfHalves}
+use Rattle.book.proofs.RunLaws.{sound-taken, refusedIn, answerIn, refused-counted}
+use Rattle.sums.specs.Accepted.{acceptedEvents, shortOnes, sumOf}
 use Rattle.sums.specs.Theorem.{Adds}
 use Rattle.sums.proofs.AnnexTheorem.{adds-exactly}
 use Rattle.order.specs.Each.{Right, numberIn, Apart, Unmarked, Each, eventAt, withEvent, withNumber, withAll, allMarked}
@@ -46,21 +50,22 @@ module _ (s : List ℕ) (sheet : Sheet) (m : List ℕ) (events : ℕ) where
   Apiece = Right sheet s × (alreadyMarked (kindOf s) s m ≡ false) × (ledgerFull (kindOf s) events ≡ false)
 
   clear-apiece : Clear (rules s sheet m events) → Apiece
-  clear-apiece c = (
+  clear-apiece clear =
+      let c = clear-at (rules s sheet m events) clear in (
     record {
-      framed = c .0;
-      kind = c .1 .0;
-      size = c .1 .1 .0;
-      there = c .1 .1 .1 .0;
-      range = c .1 .1 .1 .1 .0;
-      listed = c .1 .1 .1 .1 .1 .0;
-      timely = c .1 .1 .1 .1 .1 .1 .0;
-      few = c .1 .1 .1 .1 .1 .1 .1 .0;
-      low = c .1 .1 .1 .1 .1 .1 .1 .1 .0;
-      some = c .1 .1 .1 .1 .1 .1 .1 .1 .1 .0;
+      framed = c 2;
+      kind = c 3;
+      size = c 4;
+      there = c 5;
+      range = c 6;
+      listed = c 7;
+      timely = c 10;
+      few = c 11;
+      low = c 12;
+      some = c 13;
     },
-    c .1 .1 .1 .1 .1 .1 .1 .1 .1 .1 .0,
-    c .1 .1 .1 .1 .1 .1 .1 .1 .1 .1 .1 .0,
+    c 14,
+    c 15,
   )
 
   apiece-clear : Apiece → Clear (rules s sheet m events)
@@ -199,23 +204,6 @@ module _ (l : Ledger) (m s : List ℕ) (ready : Ready l m) where
         let none : r + cond (eqb (answerOf l m s) 0) 0 1 ≡ r = ap (λ t. r + cond t 0 1) (eq-eqb _ _ accepted) ∙ add-zero r in
         λ i. record { ledger = one-adds .0 i; map = one-adds .1 i; refused = none i }
 
--- the records refused never become fewer
-refused-grows : (st : State) (ss : List (List ℕ)) → st .refused ≤ takeAll st ss .refused
-unfolding takeRecord
-refused-grows st [] = omega arith
-refused-grows st (s ∷ ss) = omega (arith, refused-grows (takeRecord st s) ss)
-
--- so where none is refused, the first is not
-pub first-accepted : (st : State) (s : List ℕ) (ss : List (List ℕ)) → takeAll st (s ∷ ss) .refused ≡ st .refused → answerOf (st .ledger) (st .map) s ≡ 0
-unfolding takeRecord
-first-accepted st s ss e = go (test (eqb (answerOf (st .ledger) (st .map) s) 0))
-  where
-    go : Tested (eqb (answerOf (st .ledger) (st .map) s) 0) → answerOf (st .ledger) (st .map) s ≡ 0
-    go (holds a) = eqb-true _ _ a
-    go (fails a) =
-        let one : takeRecord st s .refused ≡ st .refused + 1 = ap (λ t. st .refused + cond t 0 1) a in
-        absurd (omega (arith, e, one, refused-grows (takeRecord st s) ss))
-
 -- where none is refused, all that is asked of them holds
 accepted-each :
     (l : Ledger) (m : List ℕ) (r : ℕ) (ss : List (List ℕ)) →
@@ -225,7 +213,7 @@ accepted-each :
 unfolding added eventVerdict
 accepted-each l m r [] ready e = record { right = tt; unmarked = tt; different = tt; room = omega (arith, sound-events l (ready .sound)) }
 accepted-each l m r (s ∷ ss) ready e =
-    let accepted : answerOf l m s ≡ 0 = first-accepted (record { ledger = l; map = m; refused = r }) s ss e in
+    let accepted : answerOf l m s ≡ 0 = first-accepted takeRecord refusedIn answerIn refused-counted (record { ledger = l; map = m; refused = r }) s ss e in
     let (right, unmarked, room) = one-accepted l m s ready .0 accepted in
     let rest : Each (l .sheet) (withNumber m s) (l .events + 1) ss =
     accepted-each (withEvent (l .sheet) l s) (withNumber m s) r ss (ready-after l m s ready right accepted)
@@ -318,9 +306,9 @@ module _ (l : Ledger) (m : List ℕ) (ss : List (List ℕ)) (ready : Ready l m) 
   pub each-sheet : after .sheet ≡ l .sheet
   each-sheet = with-sheet (l .sheet) l ss refl
 
-  module _ (n : length (l .cells) ≡ 21) where
+  module _ (shaped : Shaped l) where
     adds : Adds before ss
-    adds = adds-exactly before ss n
+    adds = adds-exactly before ss shaped
 
     pub each-events : after .events ≡ l .events + length ss
     each-events = ap (λ (k : Ledger). k .events) (sym same) ∙ adds .events ∙ ap (λ es. l .events + length es) counted
@@ -328,14 +316,6 @@ module _ (l : Ledger) (m : List ℕ) (ss : List (List ℕ)) (ready : Ready l m) 
     pub each-short : after .short ≡ l .short + length (shortOnes ss)
     each-short = ap (λ (k : Ledger). k .short) (sym same) ∙ adds .short ∙ ap (λ es. l .short + length (shortOnes es)) counted
 
-    pub each-customers : (row h : ℕ) → row < 7 → h < 3 → cellOf after row h .customers .0 ≡ cellOf l row h .customers .0 + sumOfCustomers row h ss
-    each-customers row h r c =
-        ap (λ (k : Ledger). cellOf k row h .customers .0) (sym same) ∙
-        adds .customers row h r c ∙
-        ap (λ es. cellOf l row h .customers .0 + sumOfCustomers row h es) counted
-
-    pub each-halves : (row h : ℕ) → row < 7 → h < 3 → cellOf after row h .halves .0 ≡ cellOf l row h .halves .0 + sumOfHalves row h ss
-    each-halves row h r c =
-        ap (λ (k : Ledger). cellOf k row h .halves .0) (sym same) ∙
-        adds .halves row h r c ∙
-        ap (λ es. cellOf l row h .halves .0 + sumOfHalves row h es) counted
+    pub each-cells : (x : Figure) (row h : ℕ) → row < rows → h < levels → heldIn x after row h ≡ heldIn x l row h + sumOf x row h ss
+    each-cells x row h r c =
+        ap (λ (k : Ledger). heldIn x k row h) (sym same) ∙ adds .cells x row h r c ∙ ap (λ es. heldIn x l row h + sumOf x row h es) counted

@@ -13,10 +13,10 @@ use Rattle.ledger.specs.declared.Ledger.{Ledger}
 use Rattle.ledger.specs.Ledger.{emptyLedger}
 use Rattle.book.specs.Book.{State, starting, takeAll}
 use Rattle.sums.specs.Accepted.{zeroMap, Accepted}
-use Rattle.order.specs.Perm.{Perm, done, keep, swap, then}
+use Rattle.base.specs.Perm.{Perm, done, keep, swap, then}
 use Rattle.order.specs.Each.{Right, numberIn, Apart, Different, Unmarked, Each, eventAt, withEvent, withNumber, withAll, allMarked, onlySheet, Told}
 use Rattle.order.specs.Reorder.{Reordered, none, after, end, SameEnd}
-use Rattle.order.proofs.PermLaws.{perm-length, perm-all, perm-map, fold-perm}
+use Rattle.base.proofs.PermLaws.{perm-length, perm-all, perm-map, fold-perm}
 use Rattle.order.proofs.AddedLaws.{added-comm}
 use Rattle.order.proofs.ShapeLaws.{told-taken, told-end, told-accepted, whole-joined, accepted-told, no-bytes-accepted}
 

@@ -10,13 +10,14 @@ use lib.Dec.{eqb}
 use borrow.Author.Tests.{not-false}
 use Rattle.base.specs.First.{Clear}
 use Rattle.base.specs.Lists.{All, keep}
-use Rattle.base.proofs.FirstLaws.{unclear}
+use Rattle.base.proofs.FirstLaws.{unclear, clear-at}
 use Rattle.wire.specs.Frame.{kindOf}
 use Rattle.wire.specs.Book.{placeAt, whichOf}
 use Rattle.wire.specs.Cut.{cutIn, recordsOf, stopIn, stopFrom, joined}
 use Rattle.wire.specs.declared.Place.{Place}
 use Rattle.wire.specs.declared.Place.the-variants.{End}
 use Rattle.wire.proofs.CutLaws.{Framed, Stopped, records-stop, records-whole, cut-joined, joined-ends}
+use Rattle.records.proofs.TakeLaws.{first-accepted}
 use Rattle.marks.specs.Marks.{markedWith}
 use Rattle.marks.proofs.MarkLaws.{markedWith-zero}
 use Rattle.fields.specs.Fields.{sheetIn, noSheet}
@@ -28,15 +29,16 @@ use Rattle.record.proofs.FairLaws.{kind-taken}
 use Rattle.ledger.specs.Ledger.{emptyLedger, added}
 use Rattle.ledger.specs.Sound.{soundLedger}
 use Rattle.ledger.specs.Take.{answerOf, ledgerAfter, mapAfter}
-use Rattle.ledger.proofs.LedgerLaws.{added-sheet}
+use Rattle.ledger.proofs.CellLaws.{added-sheet}
 use Rattle.ledger.proofs.TakeLaws.{answer-judged, accepted-verdict, accepted-adds}
 use Rattle.ledger.proofs.SoundLaws.{sound-stays-sound}
-use Rattle.book.specs.Book.{State, starting, takeRecord, takeAll, isBroken, afterBook}
-use Rattle.book.proofs.RunLaws.{sound-taken}
+use Rattle.records.specs.Records.{isBroken}
+use Rattle.book.specs.Book.{State, starting, takeRecord, takeAll, afterBook}
+use Rattle.book.proofs.RunLaws.{sound-taken, refusedIn, answerIn, refused-counted}
 use Rattle.sums.specs.Accepted.{zeroMap, Accepted}
 use Rattle.sums.specs.Theorem.{eventsOf}
 use Rattle.order.specs.Each.{Right, withAll, allMarked, onlySheet, Told}
-use Rattle.order.proofs.EachLaws.{Ready, right-kind, right-not-sheet, first-accepted, each-taken, each-accepted}
+use Rattle.order.proofs.EachLaws.{Ready, right-kind, right-not-sheet, each-taken, each-accepted}
 
 -- the start of a book is sound, and its map of the right size
 empty-sound : soundLedger emptyLedger ≡ true
@@ -63,9 +65,10 @@ module _ (m : List ℕ) (size : length m ≡ 8192) (s : List ℕ) where
       go : (kindOf s ≡ 1) ⊎ ((kindOf s ≡ 2) ⊎ (kindOf s ≡ 3)) → First
       go (inl k) =
           let d : Clear (rulesAt 1 s noSheet m 0) = subst (λ kind. Clear (rulesAt kind s noSheet m 0)) k (c .1) in
-          (k, c .0, d .1 .0, d .1 .1 .1 .0)
-      go (inr (inl k)) = absurd (true≢false (ap (λ kind. byKind kind false true true) (sym k) ∙ c .1 .1 .1 .0))
-      go (inr (inr k)) = absurd (true≢false (ap (λ kind. byKind kind false true true) (sym k) ∙ c .1 .1 .1 .0))
+          let e = clear-at (rulesAt 1 s noSheet m 0) d in
+          (k, c .0, e 4, e 6)
+      go (inr (inl k)) = absurd (true≢false (ap (λ kind. byKind kind false true true) (sym k) ∙ clear-at (rules s noSheet m 0) c 5))
+      go (inr (inr k)) = absurd (true≢false (ap (λ kind. byKind kind false true true) (sym k) ∙ clear-at (rules s noSheet m 0) c 5))
 
   sheet-first : First → answerOf emptyLedger m s ≡ 0
   unfolding recordAnswer
@@ -108,7 +111,7 @@ module _ (s : List ℕ) (ss : List (List ℕ)) where
 
   pub taken-told : takeAll (starting emptyLedger zeroMap) (s ∷ ss) .refused ≡ 0 → Told s ss
   taken-told e =
-      let a : answerOf emptyLedger zeroMap s ≡ 0 = first-accepted (starting emptyLedger zeroMap) s ss e in
+      let a : answerOf emptyLedger zeroMap s ≡ 0 = first-accepted takeRecord refusedIn answerIn refused-counted (starting emptyLedger zeroMap) s ss e in
       let (k, f, n, r) = first-sheet zeroMap zero-size s a in
       record {
         is-sheet = k;

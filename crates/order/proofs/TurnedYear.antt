@@ -3,9 +3,10 @@ use mathlib.Core.Path.{sym, subst}
 use mathlib.Core.List.{List, _∷_}
 use Prim.Native.Nat.{ℕ}
 use Rattle.worked.specs.Worked.{year}
-use Rattle.order.specs.Perm.{Perm, keep, swap, then}
+use Rattle.base.specs.Perm.{Perm, keep, swap, then}
 use Rattle.order.specs.Reorder.{Reordered, after, SameEnd}
-use Rattle.order.specs.Turned.{yearSheet, asWorked, turned, turnedYear, year-records, year-accepted}
+use Rattle.order.specs.Turned.{yearSheet, asWorked, turned, turnedYear}
+use Rattle.order.proofs.Turned.{year-records, year-accepted}
 use Rattle.order.proofs.Reordering.{reordering}
 
 -- the third before the second, and then before the first

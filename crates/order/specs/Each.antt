@@ -8,6 +8,7 @@ use mathlib.Core.Bool.{false}
 use lib.ListN.{length}
 use Rattle.base.specs.Lists.{All}
 use Rattle.wire.specs.Frame.{kindOf}
+use Rattle.codes.specs.Ranges.{mostEvents}
 use Rattle.annex.specs.Annex.{endOf, figuresOf}
 use Rattle.marks.specs.Marks.{marked, markedWith}
 use Rattle.fields.specs.declared.Sheet.{Sheet}
@@ -52,7 +53,7 @@ pub record Each (sheet : Sheet) (m : List ℕ) (events : ℕ) (ss : List (List �
   pub right : All (Right sheet) ss
   pub unmarked : All (Unmarked m) ss
   pub different : Different (map numberIn ss)
-  pub room : events + length ss ≤ 65535
+  pub room : events + length ss ≤ mostEvents
 
 -- what the event of a record adds
 abbrev pub eventAt : Sheet → List ℕ → Verdict
@@ -73,7 +74,7 @@ allMarked m ss = foldl withNumber m ss
 
 -- the empty ledger with a sheet
 abbrev pub onlySheet : List ℕ → Ledger
-onlySheet s = record { sheet = sheetIn s; events = 0; short = 0; cells = emptyLedger .cells }
+onlySheet s = record { sheet = sheetIn s; events = 0; short = 0; rows = emptyLedger .rows }
 
 -- a sheet, and events that are accepted after it
 pub record Told (sheet : List ℕ) (events : List (List ℕ)) : Type 0 where

@@ -1,4 +1,3 @@
-pub mod Perm
 pub mod Each
 pub mod Reorder
 pub mod Turned

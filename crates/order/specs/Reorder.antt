@@ -6,7 +6,7 @@ use mathlib.Core.List.{List, [], _∷_}
 use Rattle.ledger.specs.Ledger.{emptyLedger}
 use Rattle.book.specs.Book.{State, afterBook}
 use Rattle.sums.specs.Accepted.{zeroMap, Accepted}
-use Rattle.order.specs.Perm.{Perm}
+use Rattle.base.specs.Perm.{Perm}
 
 -- a book's records, the sheet first as before, and the events in any order; the book of no bytes has neither
 pub data Reordered : List (List ℕ) → List (List ℕ) → Type 0 where

@@ -8,12 +8,14 @@ use lib.Seq.{drop-cons, getD-take, length-take-le}
 use native.Mathlib.Omega.{arith}
 use native.Mathlib.Numerals.{add-one}
 use borrow.Author.Tests.{ne-eqb}
+use Rattle.wire.specs.Numbers.{le2, le4}
+use Rattle.codec.specs.Codec.{fourEach, frame, headBytes}
 use Rattle.shape.specs.declared.Entry.{Entry}
 use Rattle.shape.specs.Shape.{wholeOf}
 use Rattle.shape.proofs.ShapeLaws.{whole-sheet, whole-simple, whole-stepped}
-use Rattle.pen.specs.Pen.{Spot, pushed, pushedAll, le2, le4}
+use Rattle.pen.specs.Pen.{Spot, pushed, pushedAll}
 use Rattle.pen.proofs.PenLaws.{pushed-all-append}
-use Rattle.pack.specs.Pack.{oneEach, fourEach, frame, headBytes, sheetBytes, simpleBytes, steppedBytes, stepsOf, packedAs, packedOf}
+use Rattle.pack.specs.Pack.{oneEach, headOf, sheetBytes, simpleBytes, steppedBytes, stepsOf, packedAs, packedOf}
 
 -- the numbers left, and their first one
 left-next : (k count : ℕ) (vs : List ℕ) → k < length vs → k < count → drop k (take count vs) ≡ getD vs k 0 ∷ drop (k + 1) (take count vs)
@@ -50,8 +52,7 @@ pub fours-none : (s : Spot) (k count : ℕ) (vs : List ℕ) → min count (lengt
 fours-none s k count vs h = ap (λ (l : List ℕ). pushedAll s (fourEach l)) (left-none k count vs h)
 
 -- an event's head is among its numbers
-head-taken : (count : ℕ) (vs : List ℕ) → 5 ≤ count → headBytes vs ≡ headBytes (take count vs)
-unfolding headBytes
+head-taken : (count : ℕ) (vs : List ℕ) → 5 ≤ count → headBytes (headOf vs) ≡ headBytes (headOf (take count vs))
 head-taken count vs h =
     rw (
       getD-take count vs 0 0 (omega arith),
@@ -73,25 +74,25 @@ sheet-laid s count vs h = rw (getD-take count vs 0 0 h) refl
 pub simple-laid :
     (s : Spot) (count : ℕ) (vs : List ℕ) →
     5 ≤ count →
-    pushedAll (pushedAll (pushedAll s (frame 53 2)) (headBytes vs)) (fourEach (drop 5 (take count vs))) ≡ pushedAll s (simpleBytes (take count vs))
+    pushedAll (pushedAll (pushedAll s (frame 53 2)) (headBytes (headOf vs))) (fourEach (drop 5 (take count vs))) ≡ pushedAll s (simpleBytes (take count vs))
 unfolding simpleBytes
 simple-laid s count vs h =
     let f = pushedAll s (frame 53 2) in
     let left = fourEach (drop 5 (take count vs)) in
-    ap (λ (l : List ℕ). pushedAll (pushedAll f l) left) (head-taken count vs h) ∙ sym (pushed-all-append f (headBytes (take count vs)) left)
+    ap (λ (l : List ℕ). pushedAll (pushedAll f l) left) (head-taken count vs h) ∙ sym (pushed-all-append f (headBytes (headOf (take count vs))) left)
 
 pub stepped-laid :
     (s : Spot) (count : ℕ) (vs : List ℕ) →
     5 ≤ count →
     count ≤ length vs →
-    pushedAll (pushed (pushedAll (pushedAll s (frame (14 + 16 * ((count - 5) / 4)) 3)) (headBytes vs)) ((count - 5) / 4)) (fourEach (drop 5 (take count vs)))
+    pushedAll (pushed (pushedAll (pushedAll s (frame (14 + 16 * ((count - 5) / 4)) 3)) (headBytes (headOf vs))) ((count - 5) / 4)) (fourEach (drop 5 (take count vs)))
     ≡ pushedAll s (steppedBytes (take count vs))
 unfolding steppedBytes
 stepped-laid s count vs h g =
     let steps : (count - 5) / 4 ≡ stepsOf (take count vs) = ap (λ (n : ℕ). (n - 5) / 4) (sym (length-take-le count vs g)) in
     let left = fourEach (drop 5 (take count vs)) in
     (λ i. pushedAll (pushed (pushedAll (pushedAll s (frame (14 + 16 * steps i) 3)) (head-taken count vs h i)) (steps i)) left)
-    ∙ sym (pushed-all-append (pushedAll s (frame (14 + 16 * stepsOf (take count vs)) 3)) (headBytes (take count vs)) (stepsOf (take count vs) ∷ left))
+    ∙ sym (pushed-all-append (pushedAll s (frame (14 + 16 * stepsOf (take count vs)) 3)) (headBytes (headOf (take count vs))) (stepsOf (take count vs) ∷ left))
 
 -- the bytes of an entry that is not whole, and of one that is
 pub packed-none : (e : Entry) → wholeOf (e .kind) (e .count) ≡ false → packedOf e ≡ []

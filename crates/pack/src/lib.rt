@@ -3,7 +3,8 @@ ghost use mathlib.Core.Path.{_≡_};
 ghost use Prim.Native.Nat.{_≤_};
 ghost use lib.ListN.{take, drop};
 ghost use Rattle.pen.specs.Pen.{spot, pushedAll};
-ghost use Rattle.pack.specs.Pack.{oneEach, fourEach, headBytes, packedOf};
+ghost use Rattle.pack.specs.Pack.{oneEach, headOf, packedOf};
+ghost use Rattle.codec.specs.Codec.{fourEach, headBytes};
 use shape::Entry;
 
 // The numbers before the `count`-th, a byte for each.
@@ -40,7 +41,7 @@ fn put_fours(out: &mut [u8], at: usize, values: [u32; 261], from: usize, count: 
 
 // A record's length and kind.
 fn put_frame(out: &mut [u8], at: usize, length: u32, kind: u32) -> usize
-    ensures { λ r. ⌜ spot (now (out .exit)) r ≡ pushedAll (spot (now (out .entry)) at) (Rattle.pack.specs.Pack.frame length kind) ⌝ }
+    ensures { λ r. ⌜ spot (now (out .exit)) r ≡ pushedAll (spot (now (out .entry)) at) (Rattle.codec.specs.Codec.frame length kind) ⌝ }
 {
     let to = pen::put_le2(out, at, length);
     pen::put_le2(out, to, kind)
@@ -48,7 +49,7 @@ fn put_frame(out: &mut [u8], at: usize, length: u32, kind: u32) -> usize
 
 // An event's number, type, voltage, cause and T0.
 fn put_head(out: &mut [u8], at: usize, values: [u32; 261]) -> usize
-    ensures { λ r. ⌜ spot (now (out .exit)) r ≡ pushedAll (spot (now (out .entry)) at) (headBytes values) ⌝ }
+    ensures { λ r. ⌜ spot (now (out .exit)) r ≡ pushedAll (spot (now (out .entry)) at) (headBytes (headOf values)) ⌝ }
 {
     let typ = pen::put_le2(out, at, values[0]);
     let voltage = pen::put(out, typ, (values[1] % 256) as u8);

@@ -1,4 +1,4 @@
--- Bytes written one after the other into a buffer, and what numbers look like in hexadecimal digits and on the wire.
+-- Bytes written one after the other into a buffer, and what numbers look like in hexadecimal digits.
 use Prim.Native.Nat.{ℕ, _+_, _/_, _%_}
 use mathlib.Core.List.{List, [], _∷_, _++_}
 use mathlib.Core.Bool.{Bool, cond}
@@ -27,10 +27,3 @@ hexDigit d = cond (ltb d 10) (48 + d) (87 + d)
 
 abbrev pub hexText : ℕ → List ℕ
 hexText n = hexDigit (n / 16 % 16) ∷ hexDigit (n % 16) ∷ []
-
--- "All numbers are unsigned and little-endian" (01, "Bytes on the wire")
-abbrev pub le2 : ℕ → List ℕ
-le2 n = n % 256 ∷ n / 256 % 256 ∷ []
-
-abbrev pub le4 : ℕ → List ℕ
-le4 n = le2 n ++ le2 (n / 65536)

@@ -2,7 +2,8 @@
 // does not fit is left out.
 ghost use Prim.Native.Nat.{_%_};
 ghost use mathlib.Core.Path.{_≡_};
-ghost use Rattle.pen.specs.Pen.{spot, pushed, pushedAll, hexDigit, hexText, le2, le4};
+ghost use Rattle.pen.specs.Pen.{spot, pushed, pushedAll, hexDigit, hexText};
+ghost use Rattle.wire.specs.Numbers.{le2, le4};
 ghost use Rattle.text.specs.Text.{numberText, twoText};
 
 // One byte.

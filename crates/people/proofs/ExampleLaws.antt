@@ -7,31 +7,25 @@ use mathlib.Core.Bool.{Bool}
 use lib.ListN.{length, getD, replicate}
 use native.Mathlib.Omega.{arith}
 use Rattle.base.specs.Lists.{All}
+use Rattle.base.proofs.ListLaws.{all-append, all-alike}
 use Rattle.codes.specs.Codes.{rowOf, levelOf, causeListed}
 use Rattle.annex.specs.Times.{minutesIn, isShort}
 use Rattle.annex.specs.Annex.{countsOf}
+use Rattle.annex.specs.Figure.{Halves}
 use Rattle.marks.specs.Marks.{marked, markedWith}
 use Rattle.fields.specs.Fields.{headIn, stepsIn}
 use Rattle.record.specs.Verdict.{recordAnswer, verdictOf}
-use Rattle.ledger.specs.Ledger.{emptyLedger, cellOf, added}
+use Rattle.ledger.specs.Ledger.{emptyLedger, heldIn, added}
 use Rattle.ledger.specs.Sound.{soundLedger}
 use Rattle.ledger.specs.Take.{answerOf, ledgerAfter, mapAfter}
-use Rattle.ledger.proofs.TakeLaws.{cells-length-kept}
+use Rattle.ledger.proofs.CellLaws.{empty-shaped}
+use Rattle.ledger.proofs.TakeLaws.{shape-kept}
 use Rattle.book.specs.Book.{takeRecord}
 use Rattle.sums.specs.Accepted.{zeroMap, rowIn}
 use Rattle.worked.specs.Worked.{sheet105, example105}
 use Rattle.people.specs.People.{halvesOfAll, offIn, Agrees, Counted, AddsByCustomer}
 use Rattle.people.specs.Example.{inAll, inTwo, customers105, before105}
 use Rattle.people.proofs.CellLaws.{cell-by-customer}
-
-module _ {A : Type 0} (P : A → Type 0) where
-  all-alike : (n : ℕ) (x : A) → P x → All P (replicate n x)
-  all-alike zero x p = tt
-  all-alike (suc n) x p = (p, all-alike n x p)
-
-  all-joined : (xs ys : List A) → All P xs → All P ys → All P (xs ++ ys)
-  all-joined [] ys p q = q
-  all-joined (x ∷ xs) ys p q = (p .0, all-joined xs ys (p .1) q)
 
 each-of-four : (P : ℕ → Type 0) → P 0 → P 1 → P 2 → P 3 → (k : ℕ) → k < 4 → P k
 each-of-four P a b c d zero l = a
@@ -48,7 +42,7 @@ pub agrees105 : Agrees 0 (stepsIn example105) customers105
 agrees105 =
     record {
       entries =
-          all-joined Four (replicate 62 inAll) (replicate 2356 inTwo) (all-alike Four 62 inAll refl) (all-alike Four 2356 inTwo refl);
+          all-append Four (replicate 62 inAll) (replicate 2356 inTwo) (all-alike Four 62 inAll refl) (all-alike Four 2356 inTwo refl);
       counts = each-of-four (λ k. offIn k customers105 ≡ getD (countsOf 0 (stepsIn example105)) k 0) refl refl refl refl;
     }
   where
@@ -63,11 +57,11 @@ pub adds105 : AddsByCustomer (before105 .ledger) (before105 .map) example105 0 c
 unfolding takeRecord
 adds105 =
     cell-by-customer (before105 .ledger) (before105 .map) example105
-    (cells-length-kept emptyLedger zeroMap sheet105)
+    (shape-kept emptyLedger zeroMap sheet105 empty-shaped)
     counted105
     0 (omega arith) customers105 agrees105
 
 pub cell105 :
-    cellOf (ledgerAfter (before105 .ledger) (before105 .map) example105) (rowIn example105) 0 .halves .0 ≡
-    cellOf (before105 .ledger) (rowIn example105) 0 .halves .0 + 68696
-cell105 = adds105 .halves ∙ ap (λ x. cellOf (before105 .ledger) (rowIn example105) 0 .halves .0 + x) halves105
+    heldIn Halves (ledgerAfter (before105 .ledger) (before105 .map) example105) (rowIn example105) 0 ≡
+    heldIn Halves (before105 .ledger) (rowIn example105) 0 + 68696
+cell105 = adds105 .halves ∙ ap (λ x. heldIn Halves (before105 .ledger) (rowIn example105) 0 + x) halves105

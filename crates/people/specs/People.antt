@@ -8,11 +8,13 @@ use mathlib.Core.Bool.{Bool, false, cond}
 use lib.ListN.{length, getD}
 use Rattle.base.specs.Lists.{sum, keep, All}
 use Rattle.wire.specs.Frame.{kindOf}
+use Rattle.codes.specs.Codes.{rows, levels}
 use Rattle.annex.specs.declared.Step.{Step}
 use Rattle.annex.specs.Annex.{countsOf, shortEvent}
+use Rattle.annex.specs.Figure.{Halves}
 use Rattle.fields.specs.Fields.{headIn, stepsIn}
 use Rattle.ledger.specs.declared.Ledger.{Ledger}
-use Rattle.ledger.specs.Ledger.{cellOf}
+use Rattle.ledger.specs.Ledger.{cellOf, heldIn}
 use Rattle.ledger.specs.Take.{answerOf, ledgerAfter}
 use Rattle.sums.specs.Accepted.{eventIn, rowIn}
 
@@ -57,6 +59,5 @@ pub record Counted (l : Ledger) (m s : List ℕ) : Type 0 where
 -- the cell of the event's row and level h grows by twice the minutes of its customers; the cells of the other rows are as they were
 pub record AddsByCustomer (l : Ledger) (m s : List ℕ) (h : ℕ) (customers : List (List Bool)) : Type 0 where
   pub halves :
-      cellOf (ledgerAfter l m s) (rowIn s) h .halves .0 ≡
-      cellOf l (rowIn s) h .halves .0 + halvesOfAll (headIn s .t0) (stepsIn s) customers
-  pub others : (row level : ℕ) → row < 7 → level < 3 → row ≢ rowIn s → cellOf (ledgerAfter l m s) row level ≡ cellOf l row level
+      heldIn Halves (ledgerAfter l m s) (rowIn s) h ≡ heldIn Halves l (rowIn s) h + halvesOfAll (headIn s .t0) (stepsIn s) customers
+  pub others : (row level : ℕ) → row < rows → level < levels → row ≢ rowIn s → cellOf (ledgerAfter l m s) row level ≡ cellOf l row level

@@ -1,227 +1,52 @@
--- The theorem *exactly then* (01, "Refusal numbers"): for each number of the desk entry, a message is answered by it exactly when what the number
--- stands for applies and nothing that a smaller number stands for does; and no other number is answered. Assumes nothing.
-use Prim.Native.Nat.{ℕ, _+_, _<_, _≤_}
+-- The theorem *exactly then* (01, "Refusal numbers"): a message is answered by a number exactly when what the number stands for applies and nothing that a
+-- smaller number stands for does, and accepted exactly when nothing applies (`Foremost` computes to these facts, one by one); and no other number is
+-- answered. Assumes nothing.
+use Prim.Native.Nat.{ℕ, _+_, _<_}
 use mathlib.Core.Path.{_≡_, refl, sym, ap, subst}
-use mathlib.Core.Logic.{_≢_, _↔_}
+use mathlib.Core.Logic.{_↔_}
 use mathlib.Core.List.{List, [], _∷_}
 use mathlib.Core.Bool.{Bool, true, false, not}
 use lib.ListN.{length}
 use lib.Dec.{eqb, ltb}
 use borrow.Author.Tests.{eq-eqb, ne-eqb, lt-leb, le-ltb}
-use Rattle.base.specs.First.{Clear, Foremost}
+use Rattle.base.specs.First.{Rule, ruleOf, Clear, Foremost}
 use Rattle.base.specs.Lists.{listed}
-use Rattle.base.proofs.FirstLaws.{exactly, then, clear, unclear, NoneOf, none-of, first-listed}
+use Rattle.base.proofs.FirstLaws.{exactly-then, answered-rule, passed-rule, unclear, first-listed}
 use Rattle.base.proofs.TestLaws.{or-both}
 use Rattle.wire.specs.Frame.{framed, kindOf}
-use Rattle.codes.specs.Codes.{levelOf}
 use Rattle.annex.specs.Times.{minutesIn}
 use Rattle.marks.specs.Marks.{marked}
 use Rattle.fields.specs.Fields.{headIn}
-use Rattle.fields.specs.Tests.{headListed}
-use Rattle.limits.specs.Limits.{exceeding, aboveLevel, lateStep}
-use Rattle.record.specs.Rules.{unframed}
 use Rattle.ledger.specs.declared.Ledger.{Ledger}
 use Rattle.ledger.specs.Take.{unsound}
-use Rattle.ledger.proofs.ExactlyThen.{_and_}
 use Rattle.slot.specs.declared.Slot.{Slot}
-use Rattle.roll.specs.Desk.{slotCount, deskSound, placeOf, slotOf}
-use Rattle.roll.specs.Roll.{numberIn}
-use Rattle.plan.specs.Rules.{lookAt, ordinalIn, stepIn, rules, rulesAt, anyUnsound, kindNotTaken, lengthWrong, sheetMissing, notListed, notOpen, countWrong, timeWrong, countTooLarge, countTooHigh, alreadyUsed, ledgerFull, deskFull}
+use Rattle.roll.specs.Desk.{slotCount, deskSound, placeOf, slotOf, numberIn}
+use Rattle.plan.specs.Rules.{lookAt, ordinalIn, rules, rulesAt}
+use Rattle.plan.specs.Right.{OpenRight, StepRight, CloseRight}
 use Rattle.plan.specs.Plan.{lookAnswer}
 use Rattle.plan.specs.Serve.{messageAnswer}
 use Rattle.plan.proofs.MessageLaws.{rising, opened, stepped, closed}
 
 module _ (l : Ledger) (m : List ℕ) (d : List Slot) (s : List ℕ) where
-  just : (n : ℕ) → (messageAnswer l m d s ≡ n) ↔ Foremost n (rules (lookAt d s) l m s)
+  abbrev rulesHere : List Rule
+  rulesHere = rules (lookAt d s) l m s
+
+  pub exactly : (n : ℕ) → (messageAnswer l m d s ≡ n) ↔ Foremost n (rules (lookAt d s) l m s)
   unfolding messageAnswer lookAnswer
-  just n = (exactly n 0 (rules (lookAt d s) l m s) (rising l m d s), then n (rules (lookAt d s) l m s))
-
-  written : Clear (rules (lookAt d s) l m s) ↔ NoneOf (1, anyUnsound (lookAt d s) l m) ((2, unframed s) ∷ rulesAt (kindOf s) (lookAt d s) l m s)
-  written = none-of (1, anyUnsound (lookAt d s) l m) ((2, unframed s) ∷ rulesAt (kindOf s) (lookAt d s) l m s)
-
-  pub exactly-0 :
-      (messageAnswer l m d s ≡ 0) ↔
-      (anyUnsound (lookAt d s) l m ≡ false and
-      unframed s ≡ false and
-      kindNotTaken (kindOf s) ≡ false and
-      lengthWrong (kindOf s) s ≡ false and
-      sheetMissing (kindOf s) l ≡ false and
-      notListed (kindOf s) s ≡ false and
-      notOpen (kindOf s) (lookAt d s) ≡ false and
-      countWrong (kindOf s) (lookAt d s) s ≡ false and
-      timeWrong (kindOf s) (lookAt d s) l s ≡ false and
-      countTooLarge (kindOf s) l s ≡ false and
-      countTooHigh (kindOf s) (lookAt d s) s ≡ false and
-      alreadyUsed (kindOf s) (lookAt d s) m s ≡ false and
-      ledgerFull (kindOf s) l ≡ false and
-      deskFull (kindOf s) (lookAt d s) ≡ false)
-  unfolding messageAnswer lookAnswer
-  exactly-0 = (λ a. written .0 (clear 0 (rules (lookAt d s) l m s) (rising l m d s) a), λ c. unclear (rules (lookAt d s) l m s) (written .1 c))
-
-  pub exactly-1 :
-      (messageAnswer l m d s ≡ 1) ↔
-      (anyUnsound (lookAt d s) l m ≡ true)
-  exactly-1 = just 1
-
-  pub exactly-2 :
-      (messageAnswer l m d s ≡ 2) ↔
-      (anyUnsound (lookAt d s) l m ≡ false and
-      unframed s ≡ true)
-  exactly-2 = just 2
-
-  pub exactly-3 :
-      (messageAnswer l m d s ≡ 3) ↔
-      (anyUnsound (lookAt d s) l m ≡ false and
-      unframed s ≡ false and
-      kindNotTaken (kindOf s) ≡ true)
-  exactly-3 = just 3
-
-  pub exactly-4 :
-      (messageAnswer l m d s ≡ 4) ↔
-      (anyUnsound (lookAt d s) l m ≡ false and
-      unframed s ≡ false and
-      kindNotTaken (kindOf s) ≡ false and
-      lengthWrong (kindOf s) s ≡ true)
-  exactly-4 = just 4
-
-  pub exactly-5 :
-      (messageAnswer l m d s ≡ 5) ↔
-      (anyUnsound (lookAt d s) l m ≡ false and
-      unframed s ≡ false and
-      kindNotTaken (kindOf s) ≡ false and
-      lengthWrong (kindOf s) s ≡ false and
-      sheetMissing (kindOf s) l ≡ true)
-  exactly-5 = just 5
-
-  pub exactly-7 :
-      (messageAnswer l m d s ≡ 7) ↔
-      (anyUnsound (lookAt d s) l m ≡ false and
-      unframed s ≡ false and
-      kindNotTaken (kindOf s) ≡ false and
-      lengthWrong (kindOf s) s ≡ false and
-      sheetMissing (kindOf s) l ≡ false and
-      notListed (kindOf s) s ≡ true)
-  exactly-7 = just 7
-
-  pub exactly-8 :
-      (messageAnswer l m d s ≡ 8) ↔
-      (anyUnsound (lookAt d s) l m ≡ false and
-      unframed s ≡ false and
-      kindNotTaken (kindOf s) ≡ false and
-      lengthWrong (kindOf s) s ≡ false and
-      sheetMissing (kindOf s) l ≡ false and
-      notListed (kindOf s) s ≡ false and
-      notOpen (kindOf s) (lookAt d s) ≡ true)
-  exactly-8 = just 8
-
-  pub exactly-9 :
-      (messageAnswer l m d s ≡ 9) ↔
-      (anyUnsound (lookAt d s) l m ≡ false and
-      unframed s ≡ false and
-      kindNotTaken (kindOf s) ≡ false and
-      lengthWrong (kindOf s) s ≡ false and
-      sheetMissing (kindOf s) l ≡ false and
-      notListed (kindOf s) s ≡ false and
-      notOpen (kindOf s) (lookAt d s) ≡ false and
-      countWrong (kindOf s) (lookAt d s) s ≡ true)
-  exactly-9 = just 9
-
-  pub exactly-10 :
-      (messageAnswer l m d s ≡ 10) ↔
-      (anyUnsound (lookAt d s) l m ≡ false and
-      unframed s ≡ false and
-      kindNotTaken (kindOf s) ≡ false and
-      lengthWrong (kindOf s) s ≡ false and
-      sheetMissing (kindOf s) l ≡ false and
-      notListed (kindOf s) s ≡ false and
-      notOpen (kindOf s) (lookAt d s) ≡ false and
-      countWrong (kindOf s) (lookAt d s) s ≡ false and
-      timeWrong (kindOf s) (lookAt d s) l s ≡ true)
-  exactly-10 = just 10
-
-  pub exactly-11 :
-      (messageAnswer l m d s ≡ 11) ↔
-      (anyUnsound (lookAt d s) l m ≡ false and
-      unframed s ≡ false and
-      kindNotTaken (kindOf s) ≡ false and
-      lengthWrong (kindOf s) s ≡ false and
-      sheetMissing (kindOf s) l ≡ false and
-      notListed (kindOf s) s ≡ false and
-      notOpen (kindOf s) (lookAt d s) ≡ false and
-      countWrong (kindOf s) (lookAt d s) s ≡ false and
-      timeWrong (kindOf s) (lookAt d s) l s ≡ false and
-      countTooLarge (kindOf s) l s ≡ true)
-  exactly-11 = just 11
-
-  pub exactly-12 :
-      (messageAnswer l m d s ≡ 12) ↔
-      (anyUnsound (lookAt d s) l m ≡ false and
-      unframed s ≡ false and
-      kindNotTaken (kindOf s) ≡ false and
-      lengthWrong (kindOf s) s ≡ false and
-      sheetMissing (kindOf s) l ≡ false and
-      notListed (kindOf s) s ≡ false and
-      notOpen (kindOf s) (lookAt d s) ≡ false and
-      countWrong (kindOf s) (lookAt d s) s ≡ false and
-      timeWrong (kindOf s) (lookAt d s) l s ≡ false and
-      countTooLarge (kindOf s) l s ≡ false and
-      countTooHigh (kindOf s) (lookAt d s) s ≡ true)
-  exactly-12 = just 12
-
-  pub exactly-14 :
-      (messageAnswer l m d s ≡ 14) ↔
-      (anyUnsound (lookAt d s) l m ≡ false and
-      unframed s ≡ false and
-      kindNotTaken (kindOf s) ≡ false and
-      lengthWrong (kindOf s) s ≡ false and
-      sheetMissing (kindOf s) l ≡ false and
-      notListed (kindOf s) s ≡ false and
-      notOpen (kindOf s) (lookAt d s) ≡ false and
-      countWrong (kindOf s) (lookAt d s) s ≡ false and
-      timeWrong (kindOf s) (lookAt d s) l s ≡ false and
-      countTooLarge (kindOf s) l s ≡ false and
-      countTooHigh (kindOf s) (lookAt d s) s ≡ false and
-      alreadyUsed (kindOf s) (lookAt d s) m s ≡ true)
-  exactly-14 = just 14
-
-  pub exactly-15 :
-      (messageAnswer l m d s ≡ 15) ↔
-      (anyUnsound (lookAt d s) l m ≡ false and
-      unframed s ≡ false and
-      kindNotTaken (kindOf s) ≡ false and
-      lengthWrong (kindOf s) s ≡ false and
-      sheetMissing (kindOf s) l ≡ false and
-      notListed (kindOf s) s ≡ false and
-      notOpen (kindOf s) (lookAt d s) ≡ false and
-      countWrong (kindOf s) (lookAt d s) s ≡ false and
-      timeWrong (kindOf s) (lookAt d s) l s ≡ false and
-      countTooLarge (kindOf s) l s ≡ false and
-      countTooHigh (kindOf s) (lookAt d s) s ≡ false and
-      alreadyUsed (kindOf s) (lookAt d s) m s ≡ false and
-      ledgerFull (kindOf s) l ≡ true)
-  exactly-15 = just 15
-
-  pub exactly-16 :
-      (messageAnswer l m d s ≡ 16) ↔
-      (anyUnsound (lookAt d s) l m ≡ false and
-      unframed s ≡ false and
-      kindNotTaken (kindOf s) ≡ false and
-      lengthWrong (kindOf s) s ≡ false and
-      sheetMissing (kindOf s) l ≡ false and
-      notListed (kindOf s) s ≡ false and
-      notOpen (kindOf s) (lookAt d s) ≡ false and
-      countWrong (kindOf s) (lookAt d s) s ≡ false and
-      timeWrong (kindOf s) (lookAt d s) l s ≡ false and
-      countTooLarge (kindOf s) l s ≡ false and
-      countTooHigh (kindOf s) (lookAt d s) s ≡ false and
-      alreadyUsed (kindOf s) (lookAt d s) m s ≡ false and
-      ledgerFull (kindOf s) l ≡ false and
-      deskFull (kindOf s) (lookAt d s) ≡ true)
-  exactly-16 = just 16
+  exactly n = exactly-then n rulesHere (rising l m d s)
 
   pub exactly-no-other : listed (messageAnswer l m d s) (0 ∷ 1 ∷ 2 ∷ 3 ∷ 4 ∷ 5 ∷ 7 ∷ 8 ∷ 9 ∷ 10 ∷ 11 ∷ 12 ∷ 14 ∷ 15 ∷ 16 ∷ []) ≡ true
   unfolding messageAnswer lookAnswer
-  exactly-no-other = first-listed (rules (lookAt d s) l m s)
+  exactly-no-other = first-listed rulesHere
+
+  -- by the rules' numbers: where a number is answered, what it stands for applies, and nothing that a smaller number stands for
+  pub number-applies : (n : ℕ) → messageAnswer l m d s ≡ n → (n ≡ 0 → ⊥) → ruleOf n (rules (lookAt d s) l m s) ≡ true
+  unfolding messageAnswer lookAnswer
+  number-applies n e z = answered-rule n rulesHere e z 0 (rising l m d s)
+
+  pub passed-over : (n i : ℕ) → messageAnswer l m d s ≡ n → i < n → ruleOf i (rules (lookAt d s) l m s) ≡ false
+  unfolding messageAnswer lookAnswer
+  passed-over n i e below = passed-rule n i below rulesHere e 0 (rising l m d s)
 
   -- an open, a step and a close are each accepted exactly where the facts named for it hold, and nothing else is asked of it
   accepted-at :
@@ -239,99 +64,96 @@ module _ (l : Ledger) (m : List ℕ) (d : List Slot) (s : List ℕ) where
         (ap not whole, subst (λ kind. Clear (rulesAt kind (lookAt d s) l m s)) (sym k) c),
       )
 
-  abbrev pub OpenRight : Type 0
-  OpenRight =
-      unsound l m ≡ false and
-      deskSound d ≡ true and
-      framed s ≡ true and
-      length s ≡ 13 and
-      l .sheet .there ≡ true and
-      headListed (headIn s) ≡ true and
-      headIn s .t0 < minutesIn (l .sheet .year) and
-      marked m (numberIn s) ≡ false and
-      slotCount ≤ placeOf (numberIn s) d and
-      placeOf 0 d < slotCount
-
-  pub exactly-open : kindOf s ≡ 16 → (messageAnswer l m d s ≡ 0) ↔ OpenRight
+  pub exactly-open : kindOf s ≡ 16 → (messageAnswer l m d s ≡ 0) ↔ OpenRight l m d s
   exactly-open k = (there, back)
     where
-      there : messageAnswer l m d s ≡ 0 → OpenRight
+      there : messageAnswer l m d s ≡ 0 → OpenRight l m d s
       there a =
           let o = opened l m d s a k in
-          (o .ledger-sound, (o .desk-sound, (o .whole, (o .long, (o .sheet, (o .head-listed, (o .timely, (o .unmarked, (o .not-open, o .room)))))))))
+          record {
+            ledger-sound = o .ledger-sound;
+            desk-sound = o .desk-sound;
+            whole = o .whole;
+            long = o .long;
+            sheet = o .sheet;
+            head-listed = o .head-listed;
+            timely = o .timely;
+            unmarked = o .unmarked;
+            not-open = o .not-open;
+            room = o .room;
+          }
 
-      back : OpenRight → messageAnswer l m d s ≡ 0
-      back (sound, (desk, (whole, (long, (sheet, (head, (timely, (unmarked, (not-open, room))))))))) =
-          let by4 = ap not (eq-eqb (length s) 13 long) in
-          let by5 = ap not sheet in
-          let by7 = ap not head in
-          let by10 = lt-leb (minutesIn (l .sheet .year)) (headIn s .t0) timely in
+      back : OpenRight l m d s → messageAnswer l m d s ≡ 0
+      back r =
+          let by4 = ap not (eq-eqb (length s) 13 (r .long)) in
+          let by5 = ap not (r .sheet) in
+          let by7 = ap not (r .head-listed) in
+          let by10 = lt-leb (minutesIn (l .sheet .year)) (headIn s .t0) (r .timely) in
           let by14 =
-          or-both (marked m (numberIn s)) (ltb (placeOf (numberIn s) d) slotCount) unmarked (le-ltb (placeOf (numberIn s) d) slotCount not-open) in
-          let by16 = lt-leb slotCount (placeOf 0 d) room in
-          accepted-at 16 k sound desk whole (refl, (by4, (by5, (by7, (refl, (refl, (by10, (refl, (refl, (by14, (refl, (by16, tt))))))))))))
+          or-both (marked m (numberIn s)) (ltb (placeOf (numberIn s) d) slotCount) (r .unmarked) (le-ltb (placeOf (numberIn s) d) slotCount (r .not-open)) in
+          let by16 = lt-leb slotCount (placeOf 0 d) (r .room) in
+          accepted-at 16 k (r .ledger-sound) (r .desk-sound) (r .whole)
+          (refl, (by4, (by5, (by7, (refl, (refl, (by10, (refl, (refl, (by14, (refl, (by16, tt))))))))))))
 
-  abbrev pub StepRight : Type 0
-  StepRight =
-      unsound l m ≡ false and
-      deskSound d ≡ true and
-      framed s ≡ true and
-      length s ≡ 23 and
-      l .sheet .there ≡ true and
-      numberIn s ≢ 0 and
-      placeOf (numberIn s) d < slotCount and
-      ordinalIn s ≡ slotOf (numberIn s) d .steps + 1 and
-      ordinalIn s ≤ 64 and
-      lateStep (slotOf (numberIn s) d .last) (stepIn s .time) ≡ false and
-      exceeding (l .sheet .totals) (stepIn s .counts) ≡ false and
-      aboveLevel (levelOf (slotOf (numberIn s) d .head .voltage)) (stepIn s .counts) ≡ false
-
-  pub exactly-step : kindOf s ≡ 17 → (messageAnswer l m d s ≡ 0) ↔ StepRight
+  pub exactly-step : kindOf s ≡ 17 → (messageAnswer l m d s ≡ 0) ↔ StepRight l m d s
   exactly-step k = (there, back)
     where
-      there : messageAnswer l m d s ≡ 0 → StepRight
+      there : messageAnswer l m d s ≡ 0 → StepRight l m d s
       there a =
           let o = stepped l m d s a k in
-          (o .ledger-sound, (o .desk-sound, (o .whole, (o .long, (o .sheet, (o .numbered, (o .found, (o .ordinal, (o .few, (o .timely, (o .within, o .level)))))))))))
+          record {
+            ledger-sound = o .ledger-sound;
+            desk-sound = o .desk-sound;
+            whole = o .whole;
+            long = o .long;
+            sheet = o .sheet;
+            numbered = o .numbered;
+            found = o .found;
+            ordinal = o .ordinal;
+            few = o .few;
+            timely = o .timely;
+            within = o .within;
+            level = o .level;
+          }
 
-      back : StepRight → messageAnswer l m d s ≡ 0
-      back (sound, (desk, (whole, (long, (sheet, (numbered, (found, (ordinal, (few, (by10, (by11, by12))))))))))) =
+      back : StepRight l m d s → messageAnswer l m d s ≡ 0
+      back r =
           let next : Bool = eqb (ordinalIn s) (slotOf (numberIn s) d .steps + 1) in
-          let by4 = ap not (eq-eqb (length s) 23 long) in
-          let by5 = ap not sheet in
-          let by7 = ne-eqb (numberIn s) 0 numbered in
-          let by8 = lt-leb slotCount (placeOf (numberIn s) d) found in
-          let by9 = or-both (not next) (ltb 64 (ordinalIn s)) (ap not (eq-eqb _ _ ordinal)) (le-ltb 64 (ordinalIn s) few) in
-          accepted-at 17 k sound desk whole (refl, (by4, (by5, (by7, (by8, (by9, (by10, (by11, (by12, (refl, (refl, (refl, tt))))))))))))
+          let by4 = ap not (eq-eqb (length s) 23 (r .long)) in
+          let by5 = ap not (r .sheet) in
+          let by7 = ne-eqb (numberIn s) 0 (r .numbered) in
+          let by8 = lt-leb slotCount (placeOf (numberIn s) d) (r .found) in
+          let by9 = or-both (not next) (ltb 64 (ordinalIn s)) (ap not (eq-eqb _ _ (r .ordinal))) (le-ltb 64 (ordinalIn s) (r .few)) in
+          accepted-at 17 k (r .ledger-sound) (r .desk-sound) (r .whole)
+          (refl, (by4, (by5, (by7, (by8, (by9, (r .timely, (r .within, (r .level, (refl, (refl, (refl, tt))))))))))))
 
-  abbrev pub CloseRight : Type 0
-  CloseRight =
-      unsound l m ≡ false and
-      deskSound d ≡ true and
-      framed s ≡ true and
-      length s ≡ 7 and
-      l .sheet .there ≡ true and
-      numberIn s ≢ 0 and
-      placeOf (numberIn s) d < slotCount and
-      ordinalIn s ≢ 0 and
-      ordinalIn s ≡ slotOf (numberIn s) d .steps and
-      l .events < 65535
-
-  pub exactly-close : kindOf s ≡ 18 → (messageAnswer l m d s ≡ 0) ↔ CloseRight
+  pub exactly-close : kindOf s ≡ 18 → (messageAnswer l m d s ≡ 0) ↔ CloseRight l m d s
   exactly-close k = (there, back)
     where
-      there : messageAnswer l m d s ≡ 0 → CloseRight
+      there : messageAnswer l m d s ≡ 0 → CloseRight l m d s
       there a =
           let o = closed l m d s a k in
-          (o .ledger-sound, (o .desk-sound, (o .whole, (o .long, (o .sheet, (o .numbered, (o .found, (o .some, (o .all, o .room)))))))))
+          record {
+            ledger-sound = o .ledger-sound;
+            desk-sound = o .desk-sound;
+            whole = o .whole;
+            long = o .long;
+            sheet = o .sheet;
+            numbered = o .numbered;
+            found = o .found;
+            some = o .some;
+            all = o .all;
+            room = o .room;
+          }
 
-      back : CloseRight → messageAnswer l m d s ≡ 0
-      back (sound, (desk, (whole, (long, (sheet, (numbered, (found, (some, (all, room))))))))) =
+      back : CloseRight l m d s → messageAnswer l m d s ≡ 0
+      back r =
           let taken : Bool = eqb (ordinalIn s) (slotOf (numberIn s) d .steps) in
-          let by4 = ap not (eq-eqb (length s) 7 long) in
-          let by5 = ap not sheet in
-          let by7 = ne-eqb (numberIn s) 0 numbered in
-          let by8 = lt-leb slotCount (placeOf (numberIn s) d) found in
-          let by9 = or-both (eqb (ordinalIn s) 0) (not taken) (ne-eqb (ordinalIn s) 0 some) (ap not (eq-eqb _ _ all)) in
-          let by15 = lt-leb 65535 (l .events) room in
-          accepted-at 18 k sound desk whole (refl, (by4, (by5, (by7, (by8, (by9, (refl, (refl, (refl, (refl, (by15, (refl, tt))))))))))))
+          let by4 = ap not (eq-eqb (length s) 7 (r .long)) in
+          let by5 = ap not (r .sheet) in
+          let by7 = ne-eqb (numberIn s) 0 (r .numbered) in
+          let by8 = lt-leb slotCount (placeOf (numberIn s) d) (r .found) in
+          let by9 = or-both (eqb (ordinalIn s) 0) (not taken) (ne-eqb (ordinalIn s) 0 (r .some)) (ap not (eq-eqb _ _ (r .all))) in
+          let by15 = lt-leb 65535 (l .events) (r .room) in
+          accepted-at 18 k (r .ledger-sound) (r .desk-sound) (r .whole)
+          (refl, (by4, (by5, (by7, (by8, (by9, (refl, (refl, (refl, (refl, (by15, (refl, tt))))))))))))

@@ -1,20 +1,23 @@
 -- What a desk message tells and does, by its answer and its kind: the rules are read in their order, once, and later laws cite what is said here
 -- and not the rules' places. Assumes nothing.
 use Prim.Native.Nat.{ℕ, _+_, _<_, _≤_}
-use mathlib.Core.Path.{_≡_, sym, _∙_, subst}
+use mathlib.Core.Path.{_≡_, refl, sym, _∙_, ap, subst}
 use mathlib.Core.Logic.{_⊎_, inl, inr}
 use mathlib.Core.List.{List}
 use mathlib.Core.Bool.{Bool, true, false, _||_, not, true≢false}
 use lib.ListN.{length, set}
+use lib.Seq.{set-out}
 use lib.Dec.{eqb, ltb}
-use borrow.Author.Tests.{eqb-true, eqb-false, eq-eqb, ne-eqb, leb-false, ltb-false, not-false}
-use Rattle.base.specs.First.{Clear, Foremost, Rising}
-use Rattle.base.proofs.FirstLaws.{clear, then}
+use native.Mathlib.Nat.{le-refl}
+use borrow.Author.Tests.{eqb-true, eqb-false, leb-false, ltb-false, not-false}
+use Rattle.base.specs.First.{NoRule, Clear, Foremost, Rising}
+use Rattle.base.proofs.FirstLaws.{clear, clear-at, then}
 use Rattle.base.proofs.TestLaws.{Tested, holds, fails, test, or-left, or-right}
 use Rattle.wire.specs.Frame.{framed, kindOf}
 use Rattle.codes.specs.Codes.{levelOf}
 use Rattle.annex.specs.Times.{minutesIn}
 use Rattle.marks.specs.Marks.{marked, markedWith}
+use Rattle.marks.proofs.MarkLaws.{markedWith-zero}
 use Rattle.fields.specs.Fields.{headIn}
 use Rattle.fields.specs.Tests.{headListed}
 use Rattle.limits.specs.Limits.{exceeding, aboveLevel, lateStep}
@@ -22,11 +25,12 @@ use Rattle.ledger.specs.declared.Ledger.{Ledger}
 use Rattle.ledger.specs.Take.{unsound}
 use Rattle.slot.specs.declared.Slot.{Slot}
 use Rattle.slot.specs.Slot.{freeSlot, openedBy, steppedBy}
-use Rattle.roll.specs.Desk.{slotCount, deskSound, placeOf, slotOf}
-use Rattle.roll.specs.Roll.{numberIn}
-use Rattle.plan.specs.Rules.{lookAt, ordinalIn, stepIn, onMessage, byMessage, kindNotTaken, rules, rulesAt}
-use Rattle.plan.specs.Plan.{lookAnswer, ledgerClosed}
-use Rattle.plan.specs.Serve.{messageAnswer, ledgerServed, mapServed, deskServed}
+use Rattle.roll.specs.Desk.{slotCount, deskSound, placeOf, slotOf, numberIn}
+use Rattle.plan.specs.declared.Plan.{Plan}
+use Rattle.plan.specs.Rules.{lookAt, ordinalIn, stepIn, byMessage, kindNotTaken, rules, rulesAt}
+use Rattle.plan.specs.Plan.{refusedPlan, ledgerClosed, acceptedPlan, lookAnswer}
+use Rattle.plan.specs.Serve.{messageAnswer, planned, ledgerServed, mapServed, deskServed}
+use Rattle.plan.proofs.PlanLaws.{plan-refused, plan-accepted}
 
 -- an accepted open (kind 16)
 pub record Opened (l : Ledger) (m : List ℕ) (d : List Slot) (s : List ℕ) : Type 0 where
@@ -94,15 +98,26 @@ module _ (l : Ledger) (m : List ℕ) (d : List Slot) (s : List ℕ) where
   pub rising : Rising 0 (rules (lookAt d s) l m s)
   rising = (tt, (tt, (tt, (tt, (tt, (tt, (tt, (tt, (tt, (tt, (tt, (tt, (tt, (tt, tt))))))))))))))
 
+  -- what it does, by its plan
+  does : (p : Plan) → planned l m d s ≡ p → (ledgerServed l m d s ≡ p .served .ledger) × (mapServed l m d s ≡ markedWith m (p .number)) × (deskServed l m d s ≡ set d (p .at) (p .slot))
+  unfolding ledgerServed mapServed deskServed
+  does p e = (ap (λ (p : Plan). p .served .ledger) e, ap (λ (p : Plan). markedWith m (p .number)) e, ap (λ (p : Plan). set d (p .at) (p .slot)) e)
+
   -- a refused message changes nothing
   pub refused-same : (messageAnswer l m d s ≡ 0 → ⊥) → (ledgerServed l m d s ≡ l) × (mapServed l m d s ≡ m) × (deskServed l m d s ≡ d)
-  unfolding ledgerServed mapServed deskServed
-  refused-same z = let e = ne-eqb (messageAnswer l m d s) 0 z in (rw e, rw e, rw e)
+  unfolding messageAnswer
+  refused-same z =
+      let e = does (refusedPlan l (length d) (messageAnswer l m d s)) (plan-refused (lookAt d s) (length d) l m s z) in
+      (e .0, e .1 ∙ markedWith-zero m, e .2 ∙ set-out d (length d) freeSlot (le-refl (length d)))
 
   -- no rule applies to an accepted message
   pub accepted-clear : messageAnswer l m d s ≡ 0 → Clear (rules (lookAt d s) l m s)
   unfolding messageAnswer lookAnswer
   accepted-clear a = clear 0 (rules (lookAt d s) l m s) rising a
+
+  -- none of any number does
+  accepted-rules : messageAnswer l m d s ≡ 0 → NoRule (rules (lookAt d s) l m s)
+  accepted-rules a = clear-at (rules (lookAt d s) l m s) (accepted-clear a)
 
   -- a rule that applies while none before it does is the answer
   pub answered : (n : ℕ) → Foremost n (rules (lookAt d s) l m s) → messageAnswer l m d s ≡ n
@@ -110,54 +125,48 @@ module _ (l : Ledger) (m : List ℕ) (d : List Slot) (s : List ℕ) where
   answered n f = then n (rules (lookAt d s) l m s) f
 
   pub accepted-kind : messageAnswer l m d s ≡ 0 → (kindOf s ≡ 16) ⊎ ((kindOf s ≡ 17) ⊎ (kindOf s ≡ 18))
-  accepted-kind a = kind-taken (kindOf s) (accepted-clear a .1 .1 .0)
+  accepted-kind a = kind-taken (kindOf s) (accepted-rules a 3)
 
   -- the rules of an accepted message, read at its kind
-  clear-at : (kind : ℕ) → messageAnswer l m d s ≡ 0 → kindOf s ≡ kind → Clear (rulesAt kind (lookAt d s) l m s)
-  clear-at kind a k = subst (λ kind. Clear (rulesAt kind (lookAt d s) l m s)) k (accepted-clear a .1 .1)
+  rules-at : (kind : ℕ) → messageAnswer l m d s ≡ 0 → kindOf s ≡ kind → NoRule (rulesAt kind (lookAt d s) l m s)
+  rules-at kind a k = subst (λ kind. NoRule (rulesAt kind (lookAt d s) l m s)) k (clear-at (rulesAt (kindOf s) (lookAt d s) l m s) (accepted-clear a .1 .1))
 
   -- what it does, read at its kind
   accepted-does :
-      (kind : ℕ) →
+      (kind : ℕ) (p : Plan) →
+      acceptedPlan kind (lookAt d s) l s ≡ p →
       messageAnswer l m d s ≡ 0 →
       kindOf s ≡ kind →
-      (ledgerServed l m d s ≡ onMessage kind l l (ledgerClosed (lookAt d s) l) l) ×
-      (mapServed l m d s ≡ onMessage kind (markedWith m (numberIn s)) m m m) ×
-      (deskServed l m d s ≡
-      onMessage kind
-      (set d (placeOf 0 d) (openedBy (headIn s)))
-      (set d (placeOf (numberIn s) d) (steppedBy (slotOf (numberIn s) d) (stepIn s)))
-      (set d (placeOf (numberIn s) d) freeSlot)
-      d)
-  unfolding ledgerServed mapServed deskServed
-  accepted-does kind a k = let e = eq-eqb (messageAnswer l m d s) 0 a in (rw (e, k), rw (e, k), rw (e, k))
+      (ledgerServed l m d s ≡ p .served .ledger) × (mapServed l m d s ≡ markedWith m (p .number)) × (deskServed l m d s ≡ set d (p .at) (p .slot))
+  unfolding messageAnswer
+  accepted-does kind p e a k = does p (plan-accepted (lookAt d s) (length d) l m s a ∙ ap (λ kind. acceptedPlan kind (lookAt d s) l s) k ∙ e)
 
   -- what every accepted message tells
   pub accepted-ledger-sound : messageAnswer l m d s ≡ 0 → unsound l m ≡ false
-  accepted-ledger-sound a = or-left (unsound l m) (not (deskSound d)) (accepted-clear a .0)
+  accepted-ledger-sound a = or-left (unsound l m) (not (deskSound d)) (accepted-rules a 1)
 
   pub accepted-desk-sound : messageAnswer l m d s ≡ 0 → deskSound d ≡ true
-  accepted-desk-sound a = not-false (deskSound d) (or-right (unsound l m) (not (deskSound d)) (accepted-clear a .0))
+  accepted-desk-sound a = not-false (deskSound d) (or-right (unsound l m) (not (deskSound d)) (accepted-rules a 1))
 
   pub accepted-whole : messageAnswer l m d s ≡ 0 → framed s ≡ true
-  accepted-whole a = not-false (framed s) (accepted-clear a .1 .0)
+  accepted-whole a = not-false (framed s) (accepted-rules a 2)
 
   pub opened : messageAnswer l m d s ≡ 0 → kindOf s ≡ 16 → Opened l m d s
   opened a k =
-      let c = clear-at 16 a k in
-      let does = accepted-does 16 a k in
-      let used : (marked m (numberIn s) || ltb (placeOf (numberIn s) d) slotCount) ≡ false = c .1 .1 .1 .1 .1 .1 .1 .1 .1 .0 in
+      let c = rules-at 16 a k in
+      let does = accepted-does 16 (acceptedPlan 16 (lookAt d s) l s) refl a k in
+      let used : (marked m (numberIn s) || ltb (placeOf (numberIn s) d) slotCount) ≡ false = c 14 in
       record {
         ledger-sound = accepted-ledger-sound a;
         desk-sound = accepted-desk-sound a;
         whole = accepted-whole a;
-        long = eqb-true (length s) 13 (not-false (eqb (length s) 13) (c .1 .0));
-        sheet = not-false (l .sheet .there) (c .1 .1 .0);
-        head-listed = not-false (headListed (headIn s)) (c .1 .1 .1 .0);
-        timely = leb-false (minutesIn (l .sheet .year)) (headIn s .t0) (c .1 .1 .1 .1 .1 .1 .0);
+        long = eqb-true (length s) 13 (not-false (eqb (length s) 13) (c 4));
+        sheet = not-false (l .sheet .there) (c 5);
+        head-listed = not-false (headListed (headIn s)) (c 7);
+        timely = leb-false (minutesIn (l .sheet .year)) (headIn s .t0) (c 10);
         unmarked = or-left (marked m (numberIn s)) (ltb (placeOf (numberIn s) d) slotCount) used;
         not-open = ltb-false (placeOf (numberIn s) d) slotCount (or-right (marked m (numberIn s)) (ltb (placeOf (numberIn s) d) slotCount) used);
-        room = leb-false slotCount (placeOf 0 d) (c .1 .1 .1 .1 .1 .1 .1 .1 .1 .1 .1 .0);
+        room = leb-false slotCount (placeOf 0 d) (c 16);
         ledger = does .0;
         map = does .1;
         desk = does .2;
@@ -165,48 +174,48 @@ module _ (l : Ledger) (m : List ℕ) (d : List Slot) (s : List ℕ) where
 
   pub stepped : messageAnswer l m d s ≡ 0 → kindOf s ≡ 17 → Stepped l m d s
   stepped a k =
-      let c = clear-at 17 a k in
-      let does = accepted-does 17 a k in
+      let c = rules-at 17 a k in
+      let does = accepted-does 17 (acceptedPlan 17 (lookAt d s) l s) refl a k in
       let next : Bool = eqb (ordinalIn s) (slotOf (numberIn s) d .steps + 1) in
       let many : Bool = ltb 64 (ordinalIn s) in
-      let count : (not next || many) ≡ false = c .1 .1 .1 .1 .1 .0 in
+      let count : (not next || many) ≡ false = c 9 in
       record {
         ledger-sound = accepted-ledger-sound a;
         desk-sound = accepted-desk-sound a;
         whole = accepted-whole a;
-        long = eqb-true (length s) 23 (not-false (eqb (length s) 23) (c .1 .0));
-        sheet = not-false (l .sheet .there) (c .1 .1 .0);
-        numbered = eqb-false (numberIn s) 0 (c .1 .1 .1 .0);
-        found = leb-false slotCount (placeOf (numberIn s) d) (c .1 .1 .1 .1 .0);
+        long = eqb-true (length s) 23 (not-false (eqb (length s) 23) (c 4));
+        sheet = not-false (l .sheet .there) (c 5);
+        numbered = eqb-false (numberIn s) 0 (c 7);
+        found = leb-false slotCount (placeOf (numberIn s) d) (c 8);
         ordinal = eqb-true (ordinalIn s) (slotOf (numberIn s) d .steps + 1) (not-false next (or-left (not next) many count));
         few = ltb-false 64 (ordinalIn s) (or-right (not next) many count);
-        timely = c .1 .1 .1 .1 .1 .1 .0;
-        within = c .1 .1 .1 .1 .1 .1 .1 .0;
-        level = c .1 .1 .1 .1 .1 .1 .1 .1 .0;
+        timely = c 10;
+        within = c 11;
+        level = c 12;
         ledger = does .0;
-        map = does .1;
+        map = does .1 ∙ markedWith-zero m;
         desk = does .2;
       }
 
   pub closed : messageAnswer l m d s ≡ 0 → kindOf s ≡ 18 → Closed l m d s
   closed a k =
-      let c = clear-at 18 a k in
-      let does = accepted-does 18 a k in
+      let c = rules-at 18 a k in
+      let does = accepted-does 18 (acceptedPlan 18 (lookAt d s) l s) refl a k in
       let none : Bool = eqb (ordinalIn s) 0 in
       let same : Bool = eqb (ordinalIn s) (slotOf (numberIn s) d .steps) in
-      let count : (none || not same) ≡ false = c .1 .1 .1 .1 .1 .0 in
+      let count : (none || not same) ≡ false = c 9 in
       record {
         ledger-sound = accepted-ledger-sound a;
         desk-sound = accepted-desk-sound a;
         whole = accepted-whole a;
-        long = eqb-true (length s) 7 (not-false (eqb (length s) 7) (c .1 .0));
-        sheet = not-false (l .sheet .there) (c .1 .1 .0);
-        numbered = eqb-false (numberIn s) 0 (c .1 .1 .1 .0);
-        found = leb-false slotCount (placeOf (numberIn s) d) (c .1 .1 .1 .1 .0);
+        long = eqb-true (length s) 7 (not-false (eqb (length s) 7) (c 4));
+        sheet = not-false (l .sheet .there) (c 5);
+        numbered = eqb-false (numberIn s) 0 (c 7);
+        found = leb-false slotCount (placeOf (numberIn s) d) (c 8);
         some = eqb-false (ordinalIn s) 0 (or-left none (not same) count);
         all = eqb-true (ordinalIn s) (slotOf (numberIn s) d .steps) (not-false same (or-right none (not same) count));
-        room = leb-false 65535 (l .events) (c .1 .1 .1 .1 .1 .1 .1 .1 .1 .1 .0);
+        room = leb-false 65535 (l .events) (c 15);
         ledger = does .0;
-        map = does .1;
+        map = does .1 ∙ markedWith-zero m;
         desk = does .2;
       }

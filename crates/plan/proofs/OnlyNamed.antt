@@ -19,31 +19,16 @@ use Rattle.fields.specs.Fields.{headIn}
 use Rattle.record.specs.Rules.{unframed}
 use Rattle.ledger.specs.declared.Ledger.{Ledger}
 use Rattle.ledger.specs.Take.{unsound}
-use Rattle.ledger.proofs.ExactlyThen.{_and_}
 use Rattle.slot.specs.declared.Slot.{Slot}
 use Rattle.slot.specs.Slot.{freeSlot, openedBy, steppedBy}
-use Rattle.roll.specs.Desk.{slotCount, numberAt, deskSound, placeOf, slotOf}
-use Rattle.roll.specs.Roll.{numberIn}
+use Rattle.roll.specs.Desk.{slotCount, numberAt, deskSound, placeOf, slotOf, numberIn}
 use Rattle.roll.proofs.SearchLaws.{found-number, before, absent, missing, place-first, differ-apart, desk-slots, desk-differ}
 use Rattle.plan.specs.Rules.{lookAt, stepIn, rules, anyUnsound, kindNotTaken, lengthWrong, sheetMissing, notListed, notOpen}
 use Rattle.plan.specs.Plan.{lookAnswer}
 use Rattle.plan.specs.Serve.{messageAnswer, ledgerServed, mapServed, deskServed}
 use Rattle.plan.proofs.MessageLaws.{opened, stepped, closed, refused-same, accepted-kind, accepted-desk-sound}
-use Rattle.plan.proofs.ExactlyThen.{exactly-8}
-
--- the messages that name an open outage
-abbrev pub StepOrClose : List ℕ → Type 0
-StepOrClose s = (kindOf s ≡ 17) ⊎ (kindOf s ≡ 18)
-
--- no slot of the desk holds the number
-abbrev pub NotHeld : ℕ → List Slot → Type 0
-NotHeld v d = (i : ℕ) → i < length d → numberAt (getD d i freeSlot) ≢ v
-
--- the slot at an index holds the number (0: it is free), and no slot before it does
-pub record Lowest (v : ℕ) (d : List Slot) (i : ℕ) : Type 0 where
-  pub within : i < length d
-  pub held : numberAt (getD d i freeSlot) ≡ v
-  pub none-before : (j : ℕ) → j < i → numberAt (getD d j freeSlot) ≢ v
+use Rattle.plan.proofs.ExactlyThen.{exactly}
+use Rattle.plan.specs.Named.{StepOrClose, NotHeld, Lowest, Same, Named, WrongNumber}
 
 -- the search finds it, and nothing else is the lowest
 pub search-lowest : (v : ℕ) (d : List Slot) → placeOf v d < length d → Lowest v d (placeOf v d)
@@ -91,10 +76,6 @@ module _ (l : Ledger) (m : List ℕ) (d : List Slot) (s : List ℕ) where
   abbrev Refused : Type 0
   Refused = messageAnswer l m d s ≡ 0 → ⊥
 
-  -- the slot at an index is as it was
-  abbrev pub Same : ℕ → Type 0
-  Same i = getD (deskServed l m d s) i freeSlot ≡ getD d i freeSlot
-
   -- accepted or refused
   either : {X : Type 0} → (messageAnswer l m d s ≡ 0 → X) → (Refused → X) → X
   either {X} p q = go (test (eqb (messageAnswer l m d s) 0))
@@ -103,7 +84,7 @@ module _ (l : Ledger) (m : List ℕ) (d : List Slot) (s : List ℕ) where
       go (holds e) = p (eqb-true (messageAnswer l m d s) 0 e)
       go (fails e) = q (eqb-false (messageAnswer l m d s) 0 e)
 
-  refused-slot : Refused → (i : ℕ) → Same i
+  refused-slot : Refused → (i : ℕ) → Same l m d s i
   refused-slot z i = ap (λ k. getD k i freeSlot) (refused-same l m d s z .2)
 
   -- an accepted step or close replaces the slot where the search for its number ends, which holds the number
@@ -144,7 +125,7 @@ module _ (l : Ledger) (m : List ℕ) (d : List Slot) (s : List ℕ) where
       go (inr (inr k)) = c k
 
   -- a step or close: every slot but the one where the search for its number ends is as it was
-  pub named-others-same : StepOrClose s → (i : ℕ) → i ≢ placeOf (numberIn s) d → Same i
+  pub named-others-same : StepOrClose s → (i : ℕ) → i ≢ placeOf (numberIn s) d → Same l m d s i
   named-others-same k i n =
       either (λ a. let r = replaced k a in others-left d (placeOf (numberIn s) d) (r .0) (deskServed l m d s) (r .1) i n) (λ z. refused-slot z i)
 
@@ -163,7 +144,7 @@ module _ (l : Ledger) (m : List ℕ) (d : List Slot) (s : List ℕ) where
       numbered (inr k) = closed l m d s a k .numbered
 
   -- so whether it is accepted or not, a slot that holds another number is as it was
-  pub other-numbers-same : StepOrClose s → (i : ℕ) → numberAt (getD d i freeSlot) ≢ numberIn s → Same i
+  pub other-numbers-same : StepOrClose s → (i : ℕ) → numberAt (getD d i freeSlot) ≢ numberIn s → Same l m d s i
   other-numbers-same k i n =
       either (λ a. named-others-same k i (λ e. n (ap (λ j. numberAt (getD d j freeSlot)) e ∙ named-lowest k a .held))) (λ z. refused-slot z i)
 
@@ -184,7 +165,7 @@ module _ (l : Ledger) (m : List ℕ) (d : List Slot) (s : List ℕ) where
       put-there d (placeOf (numberIn s) d) freeSlot (deskServed l m d s) (closed l m d s a k .desk) (named-lowest (inr k) a .within)
 
   -- an open: every slot but the free one of lowest index is as it was
-  pub open-others-same : kindOf s ≡ 16 → (i : ℕ) → i ≢ placeOf 0 d → Same i
+  pub open-others-same : kindOf s ≡ 16 → (i : ℕ) → i ≢ placeOf 0 d → Same l m d s i
   open-others-same k i n =
       either (λ a. others-left d (placeOf 0 d) (openedBy (headIn s)) (deskServed l m d s) (opened l m d s a k .desk) i n) (λ z. refused-slot z i)
 
@@ -200,7 +181,7 @@ module _ (l : Ledger) (m : List ℕ) (d : List Slot) (s : List ℕ) where
   open-number k a = ap numberAt (open-there k a)
 
   -- so whether it is accepted or not, no open outage is touched
-  pub open-slots-same : kindOf s ≡ 16 → (i : ℕ) → numberAt (getD d i freeSlot) ≢ 0 → Same i
+  pub open-slots-same : kindOf s ≡ 16 → (i : ℕ) → numberAt (getD d i freeSlot) ≢ 0 → Same l m d s i
   open-slots-same k i n =
       either (λ a. open-others-same k i (λ e. n (ap (λ j. numberAt (getD d j freeSlot)) e ∙ open-lowest k a .held))) (λ z. refused-slot z i)
 
@@ -219,24 +200,19 @@ module _ (l : Ledger) (m : List ℕ) (d : List Slot) (s : List ℕ) where
       go a (inl k) = opened l m d s a k .ledger
       go a (inr k) = stepped l m d s a k .ledger
 
-  -- the message is accepted, and it is an open and this is the index of the free slot of lowest index, or it is a step or close and this is the index
-  -- of the slot that holds its number
-  abbrev pub Named : ℕ → Type 0
-  Named i = (messageAnswer l m d s ≡ 0) × (((kindOf s ≡ 16) × Lowest 0 d i) ⊎ (StepOrClose s × Lowest (numberIn s) d i))
-
   -- the theorem: whatever the message, a slot that is not the named one is as it was
-  pub only-the-named : (i : ℕ) → Same i ⊎ Named i
+  pub only-the-named : (i : ℕ) → Same l m d s i ⊎ Named l m d s i
   only-the-named i = either (λ a. by-kind a (accepted-kind l m d s a)) (λ z. inl (refused-slot z i))
     where
-      opens : messageAnswer l m d s ≡ 0 → kindOf s ≡ 16 → Dec (i ≡ placeOf 0 d) → Same i ⊎ Named i
+      opens : messageAnswer l m d s ≡ 0 → kindOf s ≡ 16 → Dec (i ≡ placeOf 0 d) → Same l m d s i ⊎ Named l m d s i
       opens a k (yes e) = inr (a, inl (k, subst (Lowest 0 d) (sym e) (open-lowest k a)))
       opens a k (no n) = inl (open-others-same k i n)
 
-      names : messageAnswer l m d s ≡ 0 → StepOrClose s → Dec (i ≡ placeOf (numberIn s) d) → Same i ⊎ Named i
+      names : messageAnswer l m d s ≡ 0 → StepOrClose s → Dec (i ≡ placeOf (numberIn s) d) → Same l m d s i ⊎ Named l m d s i
       names a k (yes e) = inr (a, inr (k, subst (Lowest (numberIn s) d) (sym e) (named-lowest k a)))
       names a k (no n) = inl (named-others-same k i n)
 
-      by-kind : messageAnswer l m d s ≡ 0 → (kindOf s ≡ 16) ⊎ ((kindOf s ≡ 17) ⊎ (kindOf s ≡ 18)) → Same i ⊎ Named i
+      by-kind : messageAnswer l m d s ≡ 0 → (kindOf s ≡ 16) ⊎ ((kindOf s ≡ 17) ⊎ (kindOf s ≡ 18)) → Same l m d s i ⊎ Named l m d s i
       by-kind a (inl k) = opens a k (ℕ-discrete i (placeOf 0 d))
       by-kind a (inr k) = names a k (ℕ-discrete i (placeOf (numberIn s) d))
 
@@ -262,28 +238,19 @@ module _ (l : Ledger) (m : List ℕ) (d : List Slot) (s : List ℕ) where
       let past : slotCount ≤ placeOf (numberIn s) d = leb-true slotCount (placeOf (numberIn s) d) (sym (not-open-test k) ∙ t) in
       absent (numberIn s) d (omega (arith, past, desk-slots d e))
 
-  -- no slot holds its number, and none of 1 to 7 applies (3 does not, by its kind)
-  abbrev pub WrongNumber : Type 0
-  WrongNumber =
-      anyUnsound (lookAt d s) l m ≡ false and
-      unframed s ≡ false and
-      lengthWrong (kindOf s) s ≡ false and
-      sheetMissing (kindOf s) l ≡ false and
-      notListed (kindOf s) s ≡ false and
-      NotHeld (numberIn s) d
-
   -- a step or close is answered 8 exactly then
-  pub exactly-not-open : StepOrClose s → (messageAnswer l m d s ≡ 8) ↔ WrongNumber
+  pub exactly-not-open : StepOrClose s → (messageAnswer l m d s ≡ 8) ↔ WrongNumber l m d s
   exactly-not-open k = (there, back)
     where
-      there : messageAnswer l m d s ≡ 8 → WrongNumber
+      there : messageAnswer l m d s ≡ 8 → WrongNumber l m d s
       there e =
-          let (sound, (framed, (kind, (long, (sheet, (numbered, past)))))) = exactly-8 l m d s .0 e in
-          (sound, (framed, (long, (sheet, (numbered, search-failed k (sound-desk sound) past)))))
+          let (fit, (whole, (kind, (long, (sheet, (numbered, past)))))) = exactly l m d s 8 .0 e in
+          record { fit = fit; whole = whole; long = long; sheet = sheet; numbered = numbered; not-held = search-failed k (sound-desk fit) past }
 
-      back : WrongNumber → messageAnswer l m d s ≡ 8
-      back (sound, (framed, (long, (sheet, (numbered, none))))) =
-          exactly-8 l m d s .1 (sound, (framed, (kind-is-taken k, (long, (sheet, (numbered, search-fails k (sound-desk sound) none))))))
+      back : WrongNumber l m d s → messageAnswer l m d s ≡ 8
+      back w =
+          exactly l m d s 8 .1
+          (w .fit, (w .whole, (kind-is-taken k, (w .long, (w .sheet, (w .numbered, search-fails k (sound-desk (w .fit)) (w .not-held)))))))
 
   -- where no slot holds its number, a step or close is answered 8 or a smaller number other than 0
   pub not-held-refused : StepOrClose s → NotHeld (numberIn s) d → (0 < messageAnswer l m d s) × (messageAnswer l m d s ≤ 8)

@@ -5,8 +5,8 @@ use mathlib.Core.List.{List}
 use mathlib.Core.Bool.{Bool, true, false, cond, not}
 use lib.Dec.{eqb}
 use borrow.Author.Tests.{eq-eqb, ne-eqb, eqb-true, eqb-false, leb-false, not-false}
-use Rattle.base.specs.First.{first, Clear, Foremost}
-use Rattle.base.proofs.FirstLaws.{clear, then}
+use Rattle.base.specs.First.{first, Foremost, NoRule}
+use Rattle.base.proofs.FirstLaws.{clear, clear-at, then}
 use Rattle.base.proofs.TestLaws.{Tested, holds, fails, test, or-left, or-right}
 use Rattle.wire.specs.Frame.{framed, kindOf}
 use Rattle.annex.specs.declared.Figures.{Figures}
@@ -17,12 +17,14 @@ use Rattle.limits.proofs.LimitLaws.{in-time}
 use Rattle.verdict.specs.Verdict.{eventVerdict}
 use Rattle.record.proofs.FairLaws.{event-fair}
 use Rattle.ledger.specs.declared.Ledger.{Ledger}
-use Rattle.ledger.specs.Sound.{soundLedger, Fits}
+use Rattle.ledger.specs.Sound.{soundLedger}
+use Rattle.ledger.specs.Inside.{Fits}
 use Rattle.slot.specs.Sound.{slotSound, openSound}
 use Rattle.slot.proofs.SoundLaws.{steps-open, open-listed, open-within}
 use Rattle.plan.specs.declared.Plan.{Plan}
 use Rattle.plan.specs.Rules.{Look, ordinalIn, stepIn, byMessage, anyUnsound, lengthWrong, sheetMissing, notListed, notOpen, countWrong, timeWrong, countTooLarge, countTooHigh, alreadyUsed, ledgerFull, deskFull, rulesAt, rules}
-use Rattle.plan.specs.Plan.{refusedPlan, acceptedPlan, answerAt, planAt, lookAnswer, planOf}
+use Rattle.plan.specs.Inside.{answerAt, planAt}
+use Rattle.plan.specs.Plan.{refusedPlan, acceptedPlan, lookAnswer, planOf}
 
 module _ (kind : ℕ) (k : Look) (slots : ℕ) (l : Ledger) (m s : List ℕ) where
   pub at-refused : (n : ℕ) → answerAt kind k l m s ≡ n → (n ≡ 0 → ⊥) → planAt kind k slots l m s ≡ refusedPlan l slots n
@@ -41,15 +43,16 @@ module _ (kind : ℕ) (k : Look) (slots : ℕ) (l : Ledger) (m s : List ℕ) whe
   refused-by n f = at-refused n (then n (rulesAt kind k l m s) f)
 
   -- no rule applies to an accepted message
-  pub answered-clear : answerAt kind k l m s ≡ 0 → Clear (rulesAt kind k l m s)
+  pub answered-rules : answerAt kind k l m s ≡ 0 → NoRule (rulesAt kind k l m s)
   unfolding answerAt
-  answered-clear e = clear 2 (rulesAt kind k l m s) (tt, (tt, (tt, (tt, (tt, (tt, (tt, (tt, (tt, (tt, (tt, (tt, tt)))))))))))) e
+  answered-rules e =
+      clear-at (rulesAt kind k l m s) (clear 2 (rulesAt kind k l m s) (tt, (tt, (tt, (tt, (tt, (tt, (tt, (tt, (tt, (tt, (tt, (tt, tt)))))))))))) e)
 
 -- an accepted message's plan answers 0
-accepted-answer : (kind : ℕ) (k : Look) (l : Ledger) (s : List ℕ) → acceptedPlan kind k l s .taken .answer ≡ 0
+accepted-answer : (kind : ℕ) (k : Look) (l : Ledger) (s : List ℕ) → acceptedPlan kind k l s .served .answer ≡ 0
 accepted-answer kind k l s = go (eqb kind 16) refl (eqb kind 17) refl (eqb kind 18) refl
   where
-    go : (a : Bool) → eqb kind 16 ≡ a → (b : Bool) → eqb kind 17 ≡ b → (c : Bool) → eqb kind 18 ≡ c → acceptedPlan kind k l s .taken .answer ≡ 0
+    go : (a : Bool) → eqb kind 16 ≡ a → (b : Bool) → eqb kind 17 ≡ b → (c : Bool) → eqb kind 18 ≡ c → acceptedPlan kind k l s .served .answer ≡ 0
     go true p b q c r = rw p
     go false p true q c r = rw (p, q)
     go false p false q true r = rw (p, q, r)
@@ -64,17 +67,17 @@ module _ (k : Look) (slots : ℕ) (l : Ledger) (m s : List ℕ) where
   unfolding planOf
   plan-accepted e = ap (λ t. cond t (acceptedPlan (kindOf s) k l s) (refusedPlan l slots (lookAnswer k l m s))) (eq-eqb _ _ e)
 
-  pub plan-answer : planOf k slots l m s .taken .answer ≡ lookAnswer k l m s
+  pub plan-answer : planOf k slots l m s .served .answer ≡ lookAnswer k l m s
   plan-answer = go (test (eqb (lookAnswer k l m s) 0))
     where
-      go : Tested (eqb (lookAnswer k l m s) 0) → planOf k slots l m s .taken .answer ≡ lookAnswer k l m s
-      go (holds e) = ap (λ (p : Plan). p .taken .answer) (plan-accepted (eqb-true _ _ e)) ∙ accepted-answer (kindOf s) k l s ∙ sym (eqb-true _ _ e)
-      go (fails e) = ap (λ (p : Plan). p .taken .answer) (plan-refused (eqb-false _ _ e))
+      go : Tested (eqb (lookAnswer k l m s) 0) → planOf k slots l m s .served .answer ≡ lookAnswer k l m s
+      go (holds e) = ap (λ (p : Plan). p .served .answer) (plan-accepted (eqb-true _ _ e)) ∙ accepted-answer (kindOf s) k l s ∙ sym (eqb-true _ _ e)
+      go (fails e) = ap (λ (p : Plan). p .served .answer) (plan-refused (eqb-false _ _ e))
 
   -- no rule applies to an accepted message
-  pub accepted-clear : lookAnswer k l m s ≡ 0 → Clear (rules k l m s)
+  pub accepted-rules : lookAnswer k l m s ≡ 0 → NoRule (rules k l m s)
   unfolding lookAnswer
-  accepted-clear e = clear 0 (rules k l m s) (tt, (tt, (tt, (tt, (tt, (tt, (tt, (tt, (tt, (tt, (tt, (tt, (tt, (tt, tt)))))))))))))) e
+  accepted-rules e = clear-at (rules k l m s) (clear 0 (rules k l m s) (tt, (tt, (tt, (tt, (tt, (tt, (tt, (tt, (tt, (tt, (tt, (tt, (tt, (tt, tt)))))))))))))) e)
 
   -- anything unsound is 1; an unframed message is 2; a framed one goes by its kind
   pub unsound-is-1 : anyUnsound k l m ≡ true → lookAnswer k l m s ≡ 1
@@ -137,7 +140,7 @@ module _ (k : Look) (l : Ledger) (m s : List ℕ) where
 
   -- an accepted step's time is in order
   pub step-timely : answerAt 17 k l m s ≡ 0 → (k .slot .last ≤ stepIn s .time) × (stepIn s .time ≤ 600000)
-  step-timely e = in-time (k .slot .last) (stepIn s .time) (answered-clear 17 k 0 l m s e .1 .1 .1 .1 .1 .1 .0)
+  step-timely e = in-time (k .slot .last) (stepIn s .time) (answered-rules 17 k 0 l m s e 10)
 
 -- an accepted event's verdict answers 0
 pub event-answer : (sheet : Sheet) (h : Head) (end : ℕ) (f : Figures) → eventVerdict sheet h end f .answer ≡ 0
@@ -152,10 +155,10 @@ pub close-fits :
     answerAt 18 k l m s ≡ 0 →
     Fits l (eventVerdict (l .sheet) (k .slot .head) (k .slot .last) (k .slot .figures))
 close-fits k l m s sound fine e =
-    let c = answered-clear 18 k 0 l m s e in
-    let there : l .sheet .there ≡ true = not-false _ (c .1 .1 .0) in
-    let room : l .events < 65535 = leb-false 65535 (l .events) (c .1 .1 .1 .1 .1 .1 .1 .1 .1 .1 .0) in
-    let count = c .1 .1 .1 .1 .1 .0 in
+    let c = answered-rules 18 k 0 l m s e in
+    let there : l .sheet .there ≡ true = not-false _ (c 5) in
+    let room : l .events < 65535 = leb-false 65535 (l .events) (c 15) in
+    let count = c 9 in
     let some : ordinalIn s ≡ 0 → ⊥ = eqb-false _ _ (or-left (eqb (ordinalIn s) 0) _ count) in
     let taken : ordinalIn s ≡ k .slot .steps = eqb-true _ _ (not-false _ (or-right (eqb (ordinalIn s) 0) _ count)) in
     let opened : openSound (k .slot) ≡ true = steps-open (k .slot) sound (λ z. some (taken ∙ z)) in

@@ -5,35 +5,31 @@ use Prim.Native.Nat.{ℕ}
 use mathlib.Core.Path.{_≡_, refl, sym, _∙_, ap}
 use mathlib.Core.Logic.{_≢_}
 use mathlib.Core.List.{List, _∷_}
-use mathlib.Core.Bool.{Bool, true, false, _&&_, _||_, not, cond, or-true, true≢false}
+use mathlib.Core.Bool.{Bool, true, false, _&&_, _||_, not, cond, or-true}
 use lib.ListN.{length, getD, set}
-use lib.Seq.{set-out}
 use lib.Dec.{eqb}
-use native.Mathlib.Nat.{le-refl}
 use native.Mathlib.Omega.{arith}
-use borrow.Author.Tests.{eqb-true, ne-eqb}
+use borrow.Author.Tests.{ne-eqb}
 use Rattle.base.specs.First.{first}
 use Rattle.base.specs.Lists.{every}
-use Rattle.base.proofs.FirstLaws.{clear}
 use Rattle.wire.specs.Frame.{kindOf}
 use Rattle.marks.specs.Marks.{markedWith}
-use Rattle.marks.proofs.MarkLaws.{markedWith-zero}
-use Rattle.fields.specs.Fields.{headIn}
 use Rattle.record.specs.Rules.{unframed}
 use Rattle.ledger.specs.declared.Ledger.{Ledger}
 use Rattle.ledger.specs.Take.{unsound}
 use Rattle.slot.specs.declared.Slot.{Slot}
-use Rattle.slot.specs.Slot.{freeSlot, openedBy, steppedBy}
+use Rattle.slot.specs.Slot.{freeSlot}
 use Rattle.slot.specs.Sound.{slotSound}
-use Rattle.roll.specs.Desk.{slotCount, numbersOf, differ, deskSound, placeOf, slotOf}
-use Rattle.roll.specs.Roll.{rollOf, rollSound, numberIn, placeNamed}
+use Rattle.roll.specs.Desk.{slotCount, numbersOf, differ, deskSound}
+use Rattle.roll.specs.Inside.{rollOf, rollSound, placeNamed}
 use Rattle.roll.proofs.SearchLaws.{desk-each, desk-slots, sound-at}
 use Rattle.roll.proofs.RollLaws.{roll-is, place-named, place-free}
-use Rattle.plan.specs.declared.Plan.{Plan}
-use Rattle.plan.specs.Rules.{Look, lookAt, lookBy, stepIn, onMessage, kindNotTaken, rulesAt, rules}
-use Rattle.plan.specs.Plan.{refusedPlan, ledgerClosed, acceptedPlan, lookAnswer, planOf, planBy}
-use Rattle.plan.specs.Serve.{messageAnswer, ledgerServed, mapServed, deskServed, servedOf}
+use Rattle.plan.specs.Inside.{lookBy, planBy}
+use Rattle.plan.specs.Rules.{Look, lookAt, rulesAt}
+use Rattle.plan.specs.Plan.{refusedPlan, acceptedPlan, lookAnswer, planOf}
+use Rattle.plan.specs.Serve.{messageAnswer, planned, ledgerServed, mapServed, deskServed, servedOf}
 use Rattle.plan.proofs.MessageLaws.{refused-same}
+use Rattle.plan.proofs.PlanLaws.{plan-answer}
 
 -- ---- what is found of a desk
 
@@ -79,72 +75,18 @@ plan-is l m d s = go (deskSound d) refl
 
 -- ---- what the plan does
 
--- where it accepts: the answer is 0, and the kind is one of three
-accepted-kind : (k : Look) (l : Ledger) (m s : List ℕ) → lookAnswer k l m s ≡ 0 → kindNotTaken (kindOf s) ≡ false
-unfolding lookAnswer
-accepted-kind k l m s e = clear 0 (rules k l m s) (tt, (tt, (tt, (tt, (tt, (tt, (tt, (tt, (tt, (tt, (tt, (tt, (tt, (tt, tt)))))))))))))) e .1 .1 .0
-
--- what is seen of a plan: where the message is accepted, of the plan for its kind, and else of the refusal
 module _ (l : Ledger) (m : List ℕ) (d : List Slot) (s : List ℕ) where
-  abbrev answered : ℕ
-  answered = lookAnswer (lookAt d s) l m s
+  pub plan-served : planned l m d s .served ≡ servedOf l m d s
+  unfolding messageAnswer ledgerServed
+  plan-served = λ i. record { answer = plan-answer (lookAt d s) (length d) l m s i; ledger = planned l m d s .served .ledger }
 
-  abbrev openPlan : Plan
-  openPlan = acceptedPlan 16 (lookAt d s) l s
+  pub plan-map : markedWith m (planned l m d s .number) ≡ mapServed l m d s
+  unfolding mapServed
+  plan-map = refl
 
-  abbrev stepPlan : Plan
-  stepPlan = acceptedPlan 17 (lookAt d s) l s
-
-  abbrev closePlan : Plan
-  closePlan = acceptedPlan 18 (lookAt d s) l s
-
-  seen : {X : Type 0} (f : Plan → X) (opens steps closes same : X) → f openPlan ≡ opens → f stepPlan ≡ steps → f closePlan ≡ closes → f (refusedPlan l (length d) answered) ≡ same →
-      f (planOf (lookAt d s) (length d) l m s) ≡ cond (eqb answered 0) (onMessage (kindOf s) opens steps closes same) same
-  unfolding planOf
-  seen {X} f opens steps closes same o p c r = go (eqb answered 0) refl
-    where
-      kinds : (x y z : Bool) → not (cond x true (cond y true (cond z true false))) ≡ false →
-          f (cond x openPlan (cond y stepPlan (cond z closePlan (refusedPlan l (placeOf (numberIn s) d) 0)))) ≡ cond x opens (cond y steps (cond z closes same))
-      kinds true y z e = o
-      kinds false true z e = p
-      kinds false false true e = c
-      kinds false false false e = absurd (true≢false e)
-
-      go : (t : Bool) → eqb answered 0 ≡ t → f (cond t (acceptedPlan (kindOf s) (lookAt d s) l s) (refusedPlan l (length d) answered)) ≡ cond t (onMessage (kindOf s) opens steps closes same) same
-      go true e = kinds (eqb (kindOf s) 16) (eqb (kindOf s) 17) (eqb (kindOf s) 18) (accepted-kind (lookAt d s) l m s (eqb-true answered 0 e))
-      go false e = r
-
-  pub plan-answer : planOf (lookAt d s) (length d) l m s .taken .answer ≡ messageAnswer l m d s
-  unfolding messageAnswer
-  plan-answer = seen (λ p. p .taken .answer) 0 0 0 answered refl refl refl refl ∙ go (eqb answered 0) refl (eqb (kindOf s) 16) (eqb (kindOf s) 17) (eqb (kindOf s) 18)
-    where
-      go : (t : Bool) → eqb answered 0 ≡ t → (x y z : Bool) → cond t (cond x 0 (cond y 0 (cond z 0 answered))) answered ≡ answered
-      go true e true y z = sym (eqb-true answered 0 e)
-      go true e false true z = sym (eqb-true answered 0 e)
-      go true e false false true = sym (eqb-true answered 0 e)
-      go true e false false false = refl
-      go false e x y z = refl
-
-  pub plan-ledger : planOf (lookAt d s) (length d) l m s .taken .ledger ≡ ledgerServed l m d s
-  unfolding ledgerServed messageAnswer
-  plan-ledger = seen (λ p. p .taken .ledger) l l (ledgerClosed (lookAt d s) l) l refl refl refl refl
-
-  pub plan-taken : planOf (lookAt d s) (length d) l m s .taken ≡ servedOf l m d s
-  plan-taken = λ i. record { answer = plan-answer i; ledger = plan-ledger i }
-
-  pub plan-map : markedWith m (planOf (lookAt d s) (length d) l m s .number) ≡ mapServed l m d s
-  unfolding mapServed messageAnswer
-  plan-map = seen (λ p. markedWith m (p .number)) (markedWith m (numberIn s)) m m m refl (markedWith-zero m) (markedWith-zero m) (markedWith-zero m)
-
-  pub plan-desk : set d (planOf (lookAt d s) (length d) l m s .at) (planOf (lookAt d s) (length d) l m s .slot) ≡ deskServed l m d s
-  unfolding deskServed messageAnswer
-  plan-desk =
-      seen (λ p. set d (p .at) (p .slot))
-      (set d (placeOf 0 d) (openedBy (headIn s)))
-      (set d (placeOf (numberIn s) d) (steppedBy (slotOf (numberIn s) d) (stepIn s)))
-      (set d (placeOf (numberIn s) d) freeSlot)
-      d refl refl refl
-      (set-out d (length d) freeSlot (le-refl (length d)))
+  pub plan-desk : set d (planned l m d s .at) (planned l m d s .slot) ≡ deskServed l m d s
+  unfolding deskServed
+  plan-desk = refl
 
 -- ---- a desk that is not 32 slots
 
@@ -161,8 +103,8 @@ module _ (l : Ledger) (m : List ℕ) (d : List Slot) (s : List ℕ) (other : len
   other-same : (ledgerServed l m d s ≡ l) × (mapServed l m d s ≡ m) × (deskServed l m d s ≡ d)
   other-same = refused-same l m d s (λ z. omega (arith, other-answer))
 
-  pub other-taken : servedOf l m d s ≡ record { answer = 1; ledger = l }
-  other-taken = λ i. record { answer = other-answer i; ledger = other-same .0 i }
+  pub other-served : servedOf l m d s ≡ record { answer = 1; ledger = l }
+  other-served = λ i. record { answer = other-answer i; ledger = other-same .0 i }
 
   pub other-map : mapServed l m d s ≡ m
   other-map = other-same .1

@@ -2,14 +2,14 @@
 -- of the desk, and under a ledger l and a map m.
 use Prim.Native.Nat.{ℕ, _+_}
 use mathlib.Core.List.{List, [], _∷_}
-use mathlib.Core.Bool.{Bool, true, false, _&&_, _||_, not, cond}
+use mathlib.Core.Bool.{Bool, true, false, _||_, not, cond}
 use lib.ListN.{length}
 use lib.Dec.{leb, ltb, eqb}
-use Rattle.base.specs.First.{Rule, first}
-use Rattle.base.specs.Lists.{place}
+use Rattle.base.specs.First.{Rule}
 use Rattle.wire.specs.Numbers.{byteAt}
 use Rattle.wire.specs.Frame.{kindOf}
 use Rattle.codes.specs.Codes.{levelOf}
+use Rattle.codes.specs.Ranges.{mostEvents}
 use Rattle.annex.specs.declared.Step.{Step}
 use Rattle.annex.specs.Times.{minutesIn}
 use Rattle.marks.specs.Marks.{marked}
@@ -20,10 +20,7 @@ use Rattle.record.specs.Rules.{unframed}
 use Rattle.ledger.specs.declared.Ledger.{Ledger}
 use Rattle.ledger.specs.Take.{unsound}
 use Rattle.slot.specs.declared.Slot.{Slot}
-use Rattle.slot.specs.Sound.{slotSound}
-use Rattle.roll.specs.declared.Roll.{Roll}
-use Rattle.roll.specs.Desk.{slotCount, deskSound, placeOf, slotOf}
-use Rattle.roll.specs.Roll.{rollSound, numberIn, placeNamed}
+use Rattle.roll.specs.Desk.{slotCount, deskSound, placeOf, slotOf, numberIn}
 
 -- all that a message's rules read of a desk: whether it is sound, the slots that the searches for the message's number and for a free slot pass,
 -- and the slot that holds the number
@@ -42,16 +39,6 @@ stepIn s = stepAt s 7
 
 abbrev pub lookAt : List Slot → List ℕ → Look
 lookAt d s = record { sound = deskSound d; passed = placeOf (numberIn s) d; gap = placeOf 0 d; slot = slotOf (numberIn s) d }
-
--- the same from a roll and the slot that was taken out
-abbrev pub lookBy : ℕ → Roll → Slot → List ℕ → Look
-lookBy slots roll slot s =
-    record {
-      sound = rollSound slots roll && slotSound slot;
-      passed = placeNamed roll s;
-      gap = place 0 (roll .numbers);
-      slot = slot;
-    }
 
 -- what is done with an open (kind 16), a step (17) and a close (18), and with another kind
 abbrev pub onMessage : {X : Type 0} → ℕ → X → X → X → X → X
@@ -110,7 +97,7 @@ alreadyUsed kind k m s = byMessage kind (marked m (numberIn s) || ltb (k .passed
 
 -- 15: "65,535 events already in the ledger (.. close)"
 abbrev pub ledgerFull : ℕ → Ledger → Bool
-ledgerFull kind l = byMessage kind false false (leb 65535 (l .events))
+ledgerFull kind l = byMessage kind false false (leb mostEvents (l .events))
 
 -- 16: "open, and no slot is free"
 abbrev pub deskFull : ℕ → Look → Bool

@@ -4,16 +4,21 @@ ghost use mathlib.Core.Path.{_≡_};
 ghost use mathlib.Core.Bool.{true, cond};
 ghost use Rattle.ledger.specs.Sound.{soundLedger};
 ghost use Rattle.slot.specs.Sound.{slotSound};
-ghost use Rattle.plan.specs.Rules.{lookBy};
-ghost use Rattle.plan.specs.Plan.{refusedPlan, planAt, planBy};
+ghost use Rattle.plan.specs.Inside.{lookBy, planAt, planBy};
+ghost use Rattle.plan.specs.Plan.{refusedPlan};
 use ledger::Ledger;
-use ledger::Taken;
 use roll::Roll;
 use slot::Slot;
 
+// What the desk answers: the answer number, and the ledger handed back.
+pub struct Served {
+    pub answer: u8,
+    pub ledger: Ledger,
+}
+
 // What is to be done: the answer and the ledger handed back; the slot to put, and where (past the desk's end: nowhere); the number to mark, or 0.
 pub struct Plan {
-    pub taken: Taken,
+    pub served: Served,
     pub at: usize,
     pub slot: Slot,
     pub number: u16,
@@ -24,7 +29,7 @@ fn refuse(ledger: Ledger, slots: usize, answer: u8) -> Plan
     ensures { λ r. ⌜ r ≡ refusedPlan ledger slots answer ⌝ }
 {
     Plan {
-        taken: Taken { answer, ledger },
+        served: Served { answer, ledger },
         at: slots,
         slot: Slot::free(),
         number: 0,
@@ -109,7 +114,7 @@ fn plan_open(slots: usize, roll: Roll, slot: Slot, ledger: Ledger, map: &[u8], b
         return refuse(ledger, slots, answer);
     }
     Plan {
-        taken: Taken { answer: 0, ledger },
+        served: Served { answer: 0, ledger },
         at: gap,
         slot: Slot::opened(head),
         number: head.number,
@@ -148,7 +153,7 @@ fn plan_step(slots: usize, roll: Roll, slot: Slot, ledger: Ledger, map: &[u8], b
         return refuse(ledger, slots, answer);
     }
     Plan {
-        taken: Taken { answer: 0, ledger },
+        served: Served { answer: 0, ledger },
         at,
         slot: slot.stepped(step),
         number: 0,
@@ -176,7 +181,7 @@ fn plan_close(
     let head = slot.head;
     let figures = slot.figures;
     let at = roll.named(bytes);
-    let rest = if 65535 <= ledger.events { 15 } else { 0 };
+    let rest = if codes::MOST_EVENTS <= ledger.events { 15 } else { 0 };
     let answer = first_of_named(
         !sheet.there,
         number == 0,
@@ -188,9 +193,13 @@ fn plan_close(
         return refuse(ledger, slots, answer);
     }
     let taken = ledger.add(verdict::accept(sheet, head, slot.last, figures));
+    let next = taken.ledger;
     let freed = Slot::free();
     Plan {
-        taken,
+        served: Served {
+            answer: taken.answer,
+            ledger: next,
+        },
         at,
         slot: freed,
         number: 0,
@@ -230,8 +239,8 @@ pub fn decide(
 }
 
 // The answer and the ledger of a plan.
-pub fn taken_by(plan: Plan) -> Taken
-    ensures { λ r. ⌜ r ≡ plan .taken ⌝ }
+pub fn served_by(plan: Plan) -> Served
+    ensures { λ r. ⌜ r ≡ plan .served ⌝ }
 {
-    plan.taken
+    plan.served
 }

@@ -3,3 +3,4 @@ pub mod ExactlyThen
 pub mod RateLaws
 pub mod ShownLaws
 pub mod OneOutcome
+pub mod Worked

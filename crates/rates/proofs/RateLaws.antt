@@ -18,18 +18,9 @@ use Rattle.table.specs.Table.{soundTable}
 use Rattle.table.proofs.BoundLaws.{sound-period}
 use Rattle.rates.specs.declared.Figure.{Figure}
 use Rattle.rates.specs.declared.Figure.the-variants.{Is}
-use Rattle.rates.specs.Rates.{rowAt, weightOf, rateOf, meanOf, intensity, lineIntensity, meanHours}
+use Rattle.rates.specs.Rates.{rowAt, weightOf, rateOf, meanOf, intensity, lineIntensity, meanHours, Exact}
 use Rattle.rates.proofs.FigureLaws.{rateIn, meanIn, rate-answered, mean-answered}
 use Rattle.rates.proofs.ExactlyThen.{rate-exactly-fraction, mean-exactly-fraction}
-
--- the figure is a fraction in lowest terms, of the value of a formula that exists, and no other fraction is
-pub record Exact (a : Figure) (formula : Fraction) : Type 0 where
-  pub fraction : Fraction
-  pub is : a ≡ Is fraction
-  pub lowest : Lowest fraction
-  pub same : Same fraction formula
-  pub exists : formula .bottom ≡ 0 → ⊥
-  pub only : (g : Fraction) → Lowest g → Same g formula → g ≡ fraction
 
 -- so it is where the figure is n / d in lowest terms, and the formula comes to n / d
 exactly : (a : Figure) (formula : Fraction) (n d : ℕ) → a ≡ Is (lowestOf n d) → formula ≡ record { top = n; bottom = d } → 0 < d → Exact a formula

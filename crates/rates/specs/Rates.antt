@@ -2,10 +2,11 @@
 -- mean outage in hours as minutes / (60 x outages). All are exact fractions."
 use Prim.Native.Nat.{ℕ, _*_}
 use mathlib.Core.Bool.{Bool, _||_, not, cond}
+use mathlib.Core.Path.{_≡_}
 use lib.Dec.{eqb}
 use Rattle.ratio.specs.declared.Fraction.{Fraction}
-use Rattle.ratio.specs.Fraction.{whole, product}
-use Rattle.ratio.specs.Lowest.{lowestOf}
+use Rattle.ratio.specs.Fraction.{whole, product, Same}
+use Rattle.ratio.specs.Lowest.{lowestOf, Lowest}
 use Rattle.decimal.specs.declared.Shown.{Shown}
 use Rattle.decimal.specs.declared.Shown.the-variants as shown
 use Rattle.decimal.specs.Decimal.{shownOf}
@@ -74,3 +75,12 @@ hours minutes = record { top = minutes; bottom = 60 }
 
 abbrev pub meanHours : ℕ → ℕ → Fraction
 meanHours minutes n = quotient (hours minutes) (whole n)
+
+-- the figure is a fraction in lowest terms, of the value of a formula that exists, and no other fraction is
+pub record Exact (a : Figure) (formula : Fraction) : Type 0 where
+  pub fraction : Fraction
+  pub is : a ≡ Is fraction
+  pub lowest : Lowest fraction
+  pub same : Same fraction formula
+  pub exists : formula .bottom ≡ 0 → ⊥
+  pub only : (g : Fraction) → Lowest g → Same g formula → g ≡ fraction

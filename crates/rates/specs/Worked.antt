@@ -1,17 +1,15 @@
 -- Worked cases of section 5 of 003, each computed through the definitions that the contracts cite.
 use Prim.Native.Nat.{ℕ}
-use mathlib.Core.Path.{_≡_, refl}
+use mathlib.Core.Path.{_≡_}
 use mathlib.Core.List.{List, [], _∷_}
 use mathlib.Core.Bool.{true}
 use lib.ListN.{set, replicate}
 use Rattle.base.specs.Lists.{All}
-use Rattle.ratio.specs.Lowest.{euclid, gcdOf, lowestOf}
-use Rattle.decimal.specs.Decimal.{rounded, decimalOf, shownOf, decimally}
-use Rattle.elements.specs.Elements.{codes, elementCount, elementListed, rowOf}
+use Rattle.decimal.specs.Decimal.{decimally}
+use Rattle.elements.specs.Elements.{elementCount, rowOf}
 use Rattle.row.specs.declared.Row.{Row}
 use Rattle.table.specs.declared.Table.{Table}
 use Rattle.row.specs.Row.{noRow}
-use Rattle.table.specs.Table.{soundTable}
 use Rattle.rates.specs.declared.Figure.{Figure}
 use Rattle.rates.specs.declared.Figure.the-variants.{Is, Refused}
 use Rattle.rates.specs.Rates.{rateOf, meanOf, shownRate, shownMean}
@@ -89,19 +87,3 @@ refused =
 -- each comes out as it is said
 abbrev pub Right : List Case → Type 0
 Right = All (λ (c : Case). c .computed ≡ c .comes-out)
-
-pub figures-right : Right figures
-unfolding euclid gcdOf lowestOf codes elementListed rowOf soundTable rateOf meanOf
-figures-right = (refl, (refl, (refl, (refl, tt))))
-
-pub decimals-right : Right decimals
-unfolding euclid gcdOf lowestOf rounded decimalOf shownOf codes elementListed rowOf soundTable rateOf meanOf shownRate shownMean
-decimals-right = (refl, (refl, (refl, (refl, tt))))
-
-pub divided-right : Right divided
-unfolding euclid gcdOf lowestOf codes elementListed rowOf soundTable rateOf meanOf
-divided-right = (refl, (refl, (refl, (refl, (refl, (refl, tt))))))
-
-pub refused-right : Right refused
-unfolding euclid gcdOf lowestOf rounded decimalOf shownOf codes elementListed rowOf soundTable rateOf meanOf shownRate shownMean
-refused-right = (refl, (refl, (refl, (refl, (refl, (refl, (refl, (refl, tt))))))))

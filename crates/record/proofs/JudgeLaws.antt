@@ -1,27 +1,31 @@
 -- What a verdict is, by its answer: callers cite these laws and not the definitions. Assumes nothing.
-use Prim.Native.Nat.{ℕ, _≤_}
+use Prim.Native.Nat.{ℕ}
 use mathlib.Core.Path.{_≡_, refl, sym, _∙_, ap}
-use mathlib.Core.List.{List, [], _∷_}
-use mathlib.Core.Bool.{Bool, true, false, cond, not, _||_}
+use mathlib.Core.List.{List, []}
+use mathlib.Core.Bool.{Bool, true, false, cond, not, _||_, or-true}
 use lib.Dec.{eqb, leb}
-use borrow.Author.Tests.{eq-eqb, ne-eqb, eqb-true, eqb-false, not-false}
-use Rattle.base.specs.First.{Rule, first, Clear, Foremost}
-use Rattle.base.proofs.FirstLaws.{clear, unclear, then}
+use borrow.Author.Tests.{eq-eqb, ne-eqb, eqb-true, eqb-false}
+use Rattle.base.specs.First.{first, NoRule, Clear, Foremost}
+use Rattle.base.specs.Lists.{any}
+use Rattle.base.proofs.FirstLaws.{clear, clear-at, unclear, then}
 use Rattle.base.proofs.TestLaws.{Tested, holds, fails, test, or-right}
 use Rattle.wire.specs.Frame.{framed, kindOf}
 use Rattle.codes.specs.Codes.{levelOf}
-use Rattle.annex.specs.declared.Simple.{Simple}
+use Rattle.annex.specs.declared.Step.{Step}
 use Rattle.annex.specs.Times.{minutesIn}
 use Rattle.marks.specs.Marks.{marked}
 use Rattle.fields.specs.declared.Sheet.{Sheet}
-use Rattle.fields.specs.declared.Head.{Head}
 use Rattle.fields.specs.Fields.{headIn, simpleIn, stepsIn}
 use Rattle.fields.specs.Tests.{headListed}
-use Rattle.limits.specs.Limits.{exceeding, aboveLevel, simpleLate, noneThenSome, anyLate}
+use Rattle.limits.specs.Limits.{exceeding, aboveLevel, exceedingFigures, figuresAbove, simpleLate, anyLate}
+use Rattle.walk.specs.declared.Walk.{Walk}
+use Rattle.walk.specs.Walk.{setOut, walked}
+use Rattle.walk.proofs.WalkLaws.{walked-late, walked-figures, exceed-by-largest, above-by-largest}
 use Rattle.verdict.specs.declared.Verdict.{Verdict}
 use Rattle.verdict.specs.Verdict.{refusedWith, eventVerdict}
-use Rattle.record.specs.Rules.{byKind, rules, rulesAt, firstOf, lengthWrong, sheetMissingOrSecond, notListed, timeWrong, countTooLarge, countTooHigh, alreadyMarked, ledgerFull, simpleAnswer}
-use Rattle.record.specs.Verdict.{acceptedAt, answerAt, verdictAt, recordAnswer, verdictOf}
+use Rattle.record.specs.Rules.{byKind, rules, rulesAt, lengthWrong}
+use Rattle.record.specs.Inside.{firstOf, simpleTests, steppedTests, answerAt, verdictAt}
+use Rattle.record.specs.Verdict.{acceptedAt, recordAnswer, verdictOf}
 
 module _ (kind : ℕ) (s : List ℕ) (sheet : Sheet) (m : List ℕ) (events : ℕ) where
   pub at-refused : (n : ℕ) → answerAt kind s sheet m events ≡ n → (n ≡ 0 → ⊥) → verdictAt kind s sheet m events ≡ refusedWith sheet n
@@ -65,6 +69,9 @@ module _ (s : List ℕ) (sheet : Sheet) (m : List ℕ) (events : ℕ) where
   unfolding recordAnswer
   accepted-clear e = clear 1 (rules s sheet m events) (tt, (tt, (tt, (tt, (tt, (tt, (tt, (tt, (tt, (tt, (tt, (tt, tt)))))))))))) e
 
+  pub accepted-rules : recordAnswer s sheet m events ≡ 0 → NoRule (rulesAt (kindOf s) s sheet m events)
+  accepted-rules e = clear-at (rulesAt (kindOf s) s sheet m events) (accepted-clear e .1)
+
   -- an unframed record is 2; a framed one is judged by its kind
   pub unframed-is-2 : framed s ≡ false → recordAnswer s sheet m events ≡ 2
   unfolding recordAnswer
@@ -88,23 +95,54 @@ module _ (kind : ℕ) (s : List ℕ) (sheet : Sheet) (m : List ℕ) (events : �
   unfolding answerAt
   accepted-by c = at-accepted kind s sheet m events (unclear (rulesAt kind s sheet m events) c)
 
-  pub answered-clear : answerAt kind s sheet m events ≡ 0 → Clear (rulesAt kind s sheet m events)
+  pub answered-rules : answerAt kind s sheet m events ≡ 0 → NoRule (rulesAt kind s sheet m events)
   unfolding answerAt
-  answered-clear e = clear 2 (rulesAt kind s sheet m events) (tt, (tt, (tt, (tt, (tt, (tt, (tt, (tt, (tt, (tt, (tt, tt))))))))))) e
+  answered-rules e = clear-at (rulesAt kind s sheet m events) (clear 2 (rulesAt kind s sheet m events) (tt, (tt, (tt, (tt, (tt, (tt, (tt, (tt, (tt, (tt, (tt, tt))))))))))) e)
+
+-- where 10 applies, what comes after it does not matter
+pub ten-hides : (c5 c7 c10 : Bool) → c10 ≡ true → (a b : Bool) (r s : ℕ) → firstOf c5 c7 c10 a r ≡ firstOf c5 c7 c10 b s
+ten-hides c5 c7 c10 e a b r s =
+    ap (λ t. cond c5 5 (cond c7 7 (cond t 10 (cond a 11 r)))) e ∙ ap (λ t. cond c5 5 (cond c7 7 (cond t 10 (cond b 11 s)))) (sym e)
 
 -- an event of the right length: the tests that are left, in order
 module _ (s : List ℕ) (sheet : Sheet) (m : List ℕ) (events : ℕ) where
-  pub simple-answer : lengthWrong 2 s ≡ false → answerAt 2 s sheet m events ≡ simpleAnswer (headIn s) (simpleIn s) sheet m events
+  pub simple-answer : lengthWrong 2 s ≡ false → answerAt 2 s sheet m events ≡ first (simpleTests (headIn s) (simpleIn s) sheet m events)
   unfolding answerAt
   simple-answer e = rw e
 
-  pub stepped-answer :
-      lengthWrong 3 s ≡ false →
-      answerAt 3 s sheet m events ≡
-      firstOf (sheetMissingOrSecond 3 sheet) (notListed 3 s) (timeWrong 3 s sheet) (countTooLarge 3 s sheet)
-      (cond (countTooHigh 3 s) 12 (cond (alreadyMarked 3 s m) 14 (cond (ledgerFull 3 events) 15 0)))
+  -- of a stepped event by the walk over its steps: where no time breaks a rule, the largest counts make the tests of all the steps, and else 10 hides them
+  pub stepped-answer : lengthWrong 3 s ≡ false → answerAt 3 s sheet m events ≡ first (steppedTests (headIn s) (walked (setOut (headIn s .t0)) (stepsIn s)) sheet m events)
   unfolding answerAt
-  stepped-answer e = rw e
+  stepped-answer e = rw e (go (test (anyLate t0 (stepsIn s))))
+    where
+      t0 : ℕ
+      t0 = headIn s .t0
+
+      w : Walk
+      w = walked (setOut t0) (stepsIn s)
+
+      begins : Bool
+      begins = leb (minutesIn (sheet .year)) t0
+
+      over : Bool
+      over = any (λ (st : Step). exceeding (sheet .totals) (st .counts)) (stepsIn s)
+
+      rest : Bool → ℕ
+      rest high = cond high 12 (cond (marked m (headIn s .number)) 14 (cond (leb 65535 events) 15 0))
+
+      high : Bool
+      high = any (λ (st : Step). aboveLevel (levelOf (headIn s .voltage)) (st .counts)) (stepsIn s)
+
+      go : Tested (anyLate t0 (stepsIn s)) → firstOf (not (sheet .there)) (not (headListed (headIn s))) (begins || anyLate t0 (stepsIn s)) over (rest high) ≡ first (steppedTests (headIn s) w sheet m events)
+      go (holds broken) =
+          (λ i. firstOf (not (sheet .there)) (not (headListed (headIn s))) (begins || broken i) over (rest high)) ∙
+          ten-hides (not (sheet .there)) (not (headListed (headIn s))) (begins || true) (or-true begins) over (exceedingFigures (sheet .totals) (w .course .figures)) (rest high) (rest (figuresAbove (levelOf (headIn s .voltage)) (w .course .figures))) ∙
+          (λ i. firstOf (not (sheet .there)) (not (headListed (headIn s))) (begins || sym (walked-late t0 (stepsIn s) ∙ broken) i) (exceedingFigures (sheet .totals) (w .course .figures)) (rest (figuresAbove (levelOf (headIn s .voltage)) (w .course .figures))))
+      go (fails timely) =
+          let f = walked-figures t0 (stepsIn s) timely in
+          let o = ap (exceedingFigures (sheet .totals)) f ∙ exceed-by-largest (sheet .totals) t0 (stepsIn s) in
+          let a = ap (figuresAbove (levelOf (headIn s .voltage))) f ∙ above-by-largest (levelOf (headIn s .voltage)) t0 (stepsIn s) in
+          λ i. firstOf (not (sheet .there)) (not (headListed (headIn s))) (begins || sym (walked-late t0 (stepsIn s)) i) (sym o i) (rest (sym a i))
 
 -- nothing is asked of a kind that is none of the three
 pub no-kind : (kind : ℕ) → (kind ≡ 1 → ⊥) → (kind ≡ 2 → ⊥) → (kind ≡ 3 → ⊥) → byKind kind true true true ≡ false
@@ -113,33 +151,16 @@ no-kind kind a b c = rw (ne-eqb kind 1 a, ne-eqb kind 2 b, ne-eqb kind 3 c)
 -- what an accepted simple event's times and an accepted stepped event's times are
 pub simple-timely : (s : List ℕ) (sheet : Sheet) (m : List ℕ) (events : ℕ) → answerAt 2 s sheet m events ≡ 0 → simpleLate (headIn s .typ) (simpleIn s) ≡ false
 simple-timely s sheet m events e =
-    or-right (leb (minutesIn (sheet .year)) (headIn s .t0)) _ (answered-clear 2 s sheet m events e .1 .1 .1 .1 .1 .0)
+    or-right (leb (minutesIn (sheet .year)) (headIn s .t0)) _ (answered-rules 2 s sheet m events e 10)
 
 pub stepped-timely : (s : List ℕ) (sheet : Sheet) (m : List ℕ) (events : ℕ) → answerAt 3 s sheet m events ≡ 0 → anyLate (headIn s .t0) (stepsIn s) ≡ false
 stepped-timely s sheet m events e =
-    or-right (leb (minutesIn (sheet .year)) (headIn s .t0)) _ (answered-clear 3 s sheet m events e .1 .1 .1 .1 .1 .0)
+    or-right (leb (minutesIn (sheet .year)) (headIn s .t0)) _ (answered-rules 3 s sheet m events e 10)
 
 -- a sheet is judged by itself and the sheet before it: map and events do not matter
 pub sheet-alone : (s : List ℕ) (sheet : Sheet) (m : List ℕ) (events : ℕ) → verdictAt 1 s sheet [] 0 ≡ verdictAt 1 s sheet m events
 unfolding verdictAt answerAt
 sheet-alone s sheet m events = refl
-
--- where 10 applies, what comes after it does not matter
-pub ten-hides : (c5 c7 c10 : Bool) → c10 ≡ true → (a b : Bool) (r s : ℕ) → firstOf c5 c7 c10 a r ≡ firstOf c5 c7 c10 b s
-ten-hides c5 c7 c10 e a b r s =
-    ap (λ t. cond c5 5 (cond c7 7 (cond t 10 (cond a 11 r)))) e ∙ ap (λ t. cond c5 5 (cond c7 7 (cond t 10 (cond b 11 s)))) (sym e)
-
--- the tests of `simpleAnswer`, which is the number of the first that holds
-abbrev pub simpleTests : Head → Simple → Sheet → List ℕ → ℕ → List Rule
-simpleTests h e sheet m events =
-    (5, not (sheet .there)) ∷
-    (7, not (headListed h)) ∷
-    (10, leb (minutesIn (sheet .year)) (h .t0) || simpleLate (h .typ) e) ∷
-    (11, exceeding (sheet .totals) (e .n1) || exceeding (sheet .totals) (e .n2)) ∷
-    (12, aboveLevel (levelOf (h .voltage)) (e .n1) || aboveLevel (levelOf (h .voltage)) (e .n2)) ∷
-    (13, noneThenSome e) ∷
-    (14, marked m (h .number)) ∷
-    (15, leb 65535 events) ∷ []
 
 -- a test that holds answers its number, and one that fails leaves the answer to the rest
 module _ {b : Bool} (n rest : ℕ) {x : ℕ} (e : cond b n rest ≡ x) where

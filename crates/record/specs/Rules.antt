@@ -5,16 +5,15 @@ use mathlib.Core.List.{List, [], _∷_}
 use mathlib.Core.Bool.{Bool, true, false, _&&_, _||_, not, cond}
 use lib.ListN.{length}
 use lib.Dec.{leb, ltb, eqb}
-use Rattle.base.specs.First.{Rule, first}
+use Rattle.base.specs.First.{Rule}
 use Rattle.base.specs.Lists.{any}
 use Rattle.wire.specs.Frame.{framed, kindOf}
 use Rattle.codes.specs.Codes.{levelOf}
-use Rattle.annex.specs.declared.Simple.{Simple}
+use Rattle.codes.specs.Ranges.{mostEvents}
 use Rattle.annex.specs.declared.Step.{Step}
 use Rattle.annex.specs.Times.{minutesIn}
 use Rattle.marks.specs.Marks.{marked}
 use Rattle.fields.specs.declared.Sheet.{Sheet}
-use Rattle.fields.specs.declared.Head.{Head}
 use Rattle.fields.specs.Fields.{sheetIn, headIn, simpleIn, stepsIn, stepCount}
 use Rattle.fields.specs.Tests.{inRange, headListed}
 use Rattle.limits.specs.Limits.{exceeding, aboveLevel, anyLate, simpleLate, noneThenSome}
@@ -80,7 +79,7 @@ alreadyMarked kind s m = byKind kind false (marked m (headIn s .number)) (marked
 
 -- 15: "65,535 events already in the ledger (book event ..)"
 abbrev pub ledgerFull : ℕ → ℕ → Bool
-ledgerFull kind events = byKind kind false (leb 65535 events) (leb 65535 events)
+ledgerFull kind events = byKind kind false (leb mostEvents events) (leb mostEvents events)
 
 -- the rules from 3 on, of a record that is framed
 abbrev pub rulesAt : ℕ → List ℕ → Sheet → List ℕ → ℕ → List Rule
@@ -100,15 +99,3 @@ rulesAt kind s sheet m events =
 -- all of them, in the order of checking
 abbrev pub rules : List ℕ → Sheet → List ℕ → ℕ → List Rule
 rules s sheet m events = (2, unframed s) ∷ rulesAt (kindOf s) s sheet m events
-
--- the first of the tests that an event meets once its length is right
-abbrev pub firstOf : Bool → Bool → Bool → Bool → ℕ → ℕ
-firstOf c5 c7 c10 c11 rest = cond c5 5 (cond c7 7 (cond c10 10 (cond c11 11 rest)))
-
--- the smallest number that applies to a simple event of the right length, of its head and its times and counts
-abbrev pub simpleAnswer : Head → Simple → Sheet → List ℕ → ℕ → ℕ
-simpleAnswer h e sheet m events =
-    firstOf (not (sheet .there)) (not (headListed h)) (leb (minutesIn (sheet .year)) (h .t0) || simpleLate (h .typ) e)
-    (exceeding (sheet .totals) (e .n1) || exceeding (sheet .totals) (e .n2))
-    (cond (aboveLevel (levelOf (h .voltage)) (e .n1) || aboveLevel (levelOf (h .voltage)) (e .n2)) 12
-    (cond (noneThenSome e) 13 (cond (marked m (h .number)) 14 (cond (leb 65535 events) 15 0))))

@@ -2,13 +2,15 @@
 ghost use mathlib.Core.Path.{_≡_};
 ghost use mathlib.Core.Bool.{cond};
 ghost use mathlib.Core.List.{[]};
-ghost use Rattle.record.specs.Rules.{firstOf, simpleAnswer};
-ghost use Rattle.record.specs.Verdict.{verdictAt, verdictOf};
+ghost use Rattle.base.specs.First.{first};
+ghost use Rattle.record.specs.Inside.{firstOf, simpleTests, steppedTests, verdictAt};
+ghost use Rattle.record.specs.Verdict.{verdictOf};
 use annex::Figures;
 use annex::Simple;
 use fields::Head;
 use fields::Sheet;
 use verdict::Verdict;
+use walk::Walk;
 
 fn first_of_four(c12: bool, c13: bool, c14: bool, c15: bool) -> u8
     ensures { λ r. ⌜ r ≡ cond c12 12 (cond c13 13 (cond c14 14 (cond c15 15 0))) ⌝ }
@@ -74,7 +76,7 @@ fn judge_sheet(bytes: &[u8], sheet: Sheet) -> Verdict
 
 // The smallest number that applies to a simple event, 0 where none does. Each test is made only where none before it applies.
 fn simple_answer(head: Head, e: Simple, sheet: Sheet, map: &[u8], events: u16) -> u8
-    ensures { λ r. ⌜ r ≡ simpleAnswer head e sheet (now (map .entry)) events ⌝ }
+    ensures { λ r. ⌜ r ≡ first (simpleTests head e sheet (now (map .entry)) events) ⌝ }
 {
     let n = sheet.totals;
     let level = codes::level_of(head.voltage);
@@ -101,7 +103,7 @@ fn simple_answer(head: Head, e: Simple, sheet: Sheet, map: &[u8], events: u16) -
     if marks::is_marked(map, head.number) {
         return 14;
     }
-    if 65535 <= events {
+    if codes::MOST_EVENTS <= events {
         return 15;
     }
     0
@@ -123,6 +125,28 @@ fn judge_simple(bytes: &[u8], sheet: Sheet, map: &[u8], events: u16) -> Verdict
     verdict::accept(sheet, head, e.t3, e.figures())
 }
 
+// The smallest number that applies to a stepped event, by the walk over its steps, 0 where none does.
+fn stepped_answer(head: Head, w: Walk, sheet: Sheet, map: &[u8], events: u16) -> u8
+    ensures { λ r. ⌜ r ≡ first (steppedTests head w sheet (now (map .entry)) events) ⌝ }
+{
+    let n = sheet.totals;
+    let course = w.course;
+    let f = course.figures;
+    let rest = first_of_four(
+        limits::figures_above(f, codes::level_of(head.voltage)),
+        false,
+        marks::is_marked(map, head.number),
+        codes::MOST_EVENTS <= events,
+    );
+    first_of(
+        !sheet.there,
+        !head.listed(),
+        (annex::minutes_in(sheet.year) <= head.t0) | w.late,
+        limits::figures_exceed(f, n),
+        rest,
+    )
+}
+
 // A record of kind 3.
 fn judge_stepped(bytes: &[u8], sheet: Sheet, map: &[u8], events: u16) -> Verdict
     ensures { λ r. ⌜ r ≡ verdictAt 3 (now (bytes .entry)) sheet (now (map .entry)) events ⌝ }
@@ -133,27 +157,13 @@ fn judge_stepped(bytes: &[u8], sheet: Sheet, map: &[u8], events: u16) -> Verdict
         return verdict::refuse(sheet, 4);
     }
     let head = fields::head_of(bytes);
-    let n = sheet.totals;
-    let level = codes::level_of(head.voltage);
     let w = walk::walk_of(bytes, steps, head.t0);
-    let f = w.figures;
-    let rest = first_of_four(
-        limits::figures_above(f, level),
-        false,
-        marks::is_marked(map, head.number),
-        65535 <= events,
-    );
-    let answer = first_of(
-        !sheet.there,
-        !head.listed(),
-        (annex::minutes_in(sheet.year) <= head.t0) | w.late,
-        limits::figures_exceed(f, n),
-        rest,
-    );
+    let answer = stepped_answer(head, w, sheet, map, events);
     if answer != 0 {
         return verdict::refuse(sheet, answer);
     }
-    verdict::accept(sheet, head, w.last, f)
+    let course = w.course;
+    verdict::accept(sheet, head, course.last, course.figures)
 }
 
 // The verdict on a record at the book entry, for a sheet, a map and a number of events in the ledger.

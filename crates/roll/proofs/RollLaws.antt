@@ -14,8 +14,8 @@ use Rattle.slot.specs.declared.Slot.{Slot}
 use Rattle.slot.specs.Slot.{freeSlot}
 use Rattle.slot.specs.Sound.{slotSound}
 use Rattle.roll.specs.declared.Roll.{Roll}
-use Rattle.roll.specs.Desk.{slotCount, numberAt, numbersOf, differ, deskSound, placeOf}
-use Rattle.roll.specs.Roll.{noRoll, rolledSlot, rolled, rollOf, rollSound, numberIn, placeNamed}
+use Rattle.roll.specs.Desk.{slotCount, numberAt, numbersOf, differ, deskSound, placeOf, numberIn}
+use Rattle.roll.specs.Inside.{noRoll, rolledSlot, rolled, rollOf, rollSound, placeNamed}
 use Rattle.roll.proofs.SearchLaws.{numbers-length}
 
 -- a turn leaves what the whole pass gives as it is

@@ -5,6 +5,7 @@ use mathlib.Core.Bool.{Bool, true, _&&_, _||_, not}
 use lib.ListN.{length, getD, replicate}
 use lib.Dec.{eqb}
 use Rattle.base.specs.Lists.{every, listed, place}
+use Rattle.wire.specs.Numbers.{le16}
 use Rattle.slot.specs.declared.Slot.{Slot}
 use Rattle.slot.specs.Slot.{freeSlot}
 use Rattle.slot.specs.Sound.{slotSound}
@@ -40,3 +41,7 @@ placeOf v d = place v (numbersOf d)
 -- the slot that holds the number, zeros only where none does
 abbrev pub slotOf : ℕ → List Slot → Slot
 slotOf v d = getD d (placeOf v d) freeSlot
+
+-- kinds 16, 17 and 18: "number 2, .."
+abbrev pub numberIn : List ℕ → ℕ
+numberIn s = le16 s 4

@@ -1,2 +1,2 @@
 pub mod Desk
-pub mod Roll
+pub mod Inside

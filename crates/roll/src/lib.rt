@@ -1,10 +1,10 @@
 // The roll of a desk: what one pass over its slots gathers, and the searches in it.
 ghost use mathlib.Core.Path.{_≡_};
-ghost use Prim.Native.Nat.{_+_, _≤_};
+ghost use Prim.Native.Nat.{_+_};
 ghost use lib.ListN.{drop, set};
 ghost use Rattle.base.specs.Lists.{listed, place};
 ghost use Rattle.roll.specs.Desk.{differ};
-ghost use Rattle.roll.specs.Roll.{rollBy, rolledSlot, rollSound, placeNamed};
+ghost use Rattle.roll.specs.Inside.{rollBy, rolledSlot, rollSound, placeNamed};
 use slot::Slot;
 
 // How many slots a desk has.

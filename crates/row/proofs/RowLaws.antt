@@ -10,14 +10,7 @@ use borrow.Author.Tests.{leb-true, le-leb, le-ltb, ltb-false, eqb-true, eq-eqb}
 use Rattle.base.proofs.TestLaws.{Tested, holds, fails, test, and-both, or-other}
 use Rattle.base.proofs.ChainLaws.{each-holds}
 use Rattle.row.specs.declared.Row.{Row}
-use Rattle.row.specs.Row.{rowWithin}
-
--- a row within its bounds
-pub record RowSound (r : Row) : Type 0 where
-  pub outages : r .outages ≤ 65535
-  pub minutes : r .minutes ≤ r .outages * 600000
-  pub stock : r .stock ≤ 2
-  pub amount : r .stock ≡ 0 → r .amount ≡ 0
+use Rattle.row.specs.Row.{rowWithin, RowSound}
 
 pub row-exactly : (r : Row) → (rowWithin r ≡ true) ↔ RowSound r
 row-exactly r = (there, back)

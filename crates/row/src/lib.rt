@@ -1,7 +1,12 @@
 // What is known of one element of 9.8 over an observation period: a row of the element table.
 ghost use mathlib.Core.Path.{_≡_};
-ghost use Prim.Native.Nat.{_≤_};
-ghost use Rattle.row.specs.Row.{noRow, rowWithin, withOutage, withStock};
+ghost use Prim.Native.Nat.{_*_, _≤_};
+ghost use Rattle.row.specs.Row.{mostOutages, longest, noRow, rowWithin, withOutage, withStock};
+
+// The most outages that are kept of an element, and the longest of them in minutes.
+pub const MOST_OUTAGES: u32 = 65535;
+
+pub const LONGEST: u64 = 600000;
 
 // What is known of one element: its outages with their minutes, and its stock: 0 none told, 1 pieces, 2 line in tenths of a kilometre.
 pub struct Row {
@@ -26,7 +31,7 @@ impl Row {
 
     // With one outage more, of so many minutes.
     pub fn with_outage(self, minutes: u32) -> Row
-        requires { ⌜ (self .outages ≤ 65535) × (self .minutes ≤ 39321000000) ⌝ }
+        requires { ⌜ (self .outages ≤ mostOutages) × (self .minutes ≤ mostOutages * longest) ⌝ }
         ensures { λ r. ⌜ r ≡ withOutage self minutes ⌝ }
     {
         Row {
@@ -54,8 +59,8 @@ impl Row {
     pub fn within(self) -> bool
         ensures { λ r. ⌜ r ≡ rowWithin self ⌝ }
     {
-        (self.outages <= 65535)
-            & (self.minutes <= self.outages as u64 * 600000)
+        (self.outages <= MOST_OUTAGES)
+            & (self.minutes <= self.outages as u64 * LONGEST)
             & (self.stock <= 2)
             & ((0 < self.stock) | (self.amount == 0))
     }

@@ -8,14 +8,17 @@ use mathlib.Core.Bool.{Bool, false, _||_, not}
 use lib.ListN.{length}
 use lib.Dec.{eqb, leb, ltb}
 use borrow.Author.Tests.{eqb-true, eqb-false, ltb-false, leb-false, not-false}
-use Rattle.base.specs.First.{Clear}
-use Rattle.base.specs.Lists.{All}
+use Rattle.base.specs.First.{NoRule}
+use Rattle.base.specs.Lists.{All, Bytes}
 use Rattle.base.proofs.TestLaws.{or-left, or-right}
+use Rattle.base.proofs.FirstLaws.{clear-at}
 use Rattle.wire.specs.Frame.{framed, kindOf}
 use Rattle.annex.specs.Times.{minutesIn}
 use Rattle.marks.specs.Marks.{marked, markedWith}
 use Rattle.fields.specs.Fields.{headIn, stepsFrom, stepsIn, stepCount}
 use Rattle.fields.specs.Tests.{headListed}
+use Rattle.codec.specs.Fits.{StepInBytes}
+use Rattle.codec.proofs.EncodeLaws.{head-in-bytes, step-in-bytes, steps-many}
 use Rattle.limits.specs.Limits.{anyLate}
 use Rattle.record.specs.Rules.{rulesAt}
 use Rattle.record.specs.Verdict.{acceptedAt}
@@ -23,14 +26,14 @@ use Rattle.ledger.specs.declared.Ledger.{Ledger}
 use Rattle.ledger.specs.Ledger.{added}
 use Rattle.ledger.specs.Take.{answerOf, ledgerAfter, mapAfter}
 use Rattle.ledger.proofs.TakeLaws.{accepted-sound}
-use Rattle.day.specs.Day.{message, Bytes}
+use Rattle.day.specs.Day.{message}
 use Rattle.day.specs.Story.{eventIn, recordOf, emptyDay}
-use Rattle.day.proofs.EncodeLaws.{StepInBytes, Passed, head-in-bytes, step-in-bytes, verdictFor}
+use Rattle.day.proofs.EncodeLaws.{Passed, verdictFor}
 use Rattle.day.proofs.EntryLaws.{entry-clear, entry-ledger}
 use Rattle.day.proofs.AfterLaws.{event-taken}
 use Rattle.runs.specs.Messages.{messagesOf}
 use Rattle.runs.specs.Runs.{Leads}
-use Rattle.runs.proofs.WrittenAgain.{steps-many, written-again}
+use Rattle.runs.proofs.WrittenAgain.{written-again}
 use Rattle.runs.proofs.EventLaws.{event-built-up}
 
 steps-in-bytes : (s : List ℕ) → Bytes s → (n at : ℕ) → All StepInBytes (stepsFrom s n at)
@@ -39,8 +42,8 @@ steps-in-bytes s b (suc n) at = (step-in-bytes s b at, steps-in-bytes s b n (at 
 
 -- an accepted record of kind 3
 module _ (l : Ledger) (m s : List ℕ) (b : Bytes s) (k : kindOf s ≡ 3) (a : answerOf l m s ≡ 0) where
-  rules-clear : Clear (rulesAt 3 s (l .sheet) m (l .events))
-  rules-clear = subst (λ kind. Clear (rulesAt kind s (l .sheet) m (l .events))) k (entry-clear l m s a .1 .1)
+  no-rule : NoRule (rulesAt 3 s (l .sheet) m (l .events))
+  no-rule = subst (λ kind. NoRule (rulesAt kind s (l .sheet) m (l .events))) k (clear-at (rulesAt (kindOf s) s (l .sheet) m (l .events)) (entry-clear l m s a .1 .1))
 
   abbrev n : ℕ
   n = stepCount s
@@ -49,7 +52,7 @@ module _ (l : Ledger) (m s : List ℕ) (b : Bytes s) (k : kindOf s ≡ 3) (a : a
   short = ltb (length s) 14
 
   not-4 : (short || eqb n 0 || ltb 64 n || not (eqb (length s) (14 + 16 * n))) ≡ false
-  not-4 = rules-clear .1 .0
+  not-4 = no-rule 4
 
   not-4-but : (short || eqb n 0 || ltb 64 n) ≡ false
   not-4-but = or-left (short || eqb n 0 || ltb 64 n) (not (eqb (length s) (14 + 16 * n))) not-4
@@ -70,23 +73,23 @@ module _ (l : Ledger) (m s : List ℕ) (b : Bytes s) (k : kindOf s ≡ 3) (a : a
   stepped-passed =
       let t0 : ℕ = headIn s .t0 in
       let year : ℕ = minutesIn (l .sheet .year) in
-      let timing : (leb year t0 || anyLate t0 (stepsIn s)) ≡ false = rules-clear .1 .1 .1 .1 .1 .0 in
+      let timing : (leb year t0 || anyLate t0 (stepsIn s)) ≡ false = no-rule 10 in
       record {
-        there = not-false (l .sheet .there) (rules-clear .1 .1 .0);
-        head-listed = not-false (headListed (headIn s)) (rules-clear .1 .1 .1 .1 .0);
+        there = not-false (l .sheet .there) (no-rule 5);
+        head-listed = not-false (headListed (headIn s)) (no-rule 7);
         begins = leb-false year t0 (or-left (leb year t0) (anyLate t0 (stepsIn s)) timing);
         timely = or-right (leb year t0) (anyLate t0 (stepsIn s)) timing;
-        within = rules-clear .1 .1 .1 .1 .1 .1 .0;
-        level = rules-clear .1 .1 .1 .1 .1 .1 .1 .0;
+        within = no-rule 11;
+        level = no-rule 12;
         few = stepped-few;
         in-bytes = record { head = head-in-bytes s b; steps = steps-in-bytes s b n 14 };
       }
 
   stepped-new : marked m (headIn s .number) ≡ false
-  stepped-new = rules-clear .1 .1 .1 .1 .1 .1 .1 .1 .1 .0
+  stepped-new = no-rule 14
 
   stepped-room : l .events < 65535
-  stepped-room = leb-false 65535 (l .events) (rules-clear .1 .1 .1 .1 .1 .1 .1 .1 .1 .1 .0)
+  stepped-room = leb-false 65535 (l .events) (no-rule 15)
 
   stepped-adds : added l (verdictFor (l .sheet) (eventIn s)) ≡ ledgerAfter l m s
   stepped-adds = sym (entry-ledger l m s a ∙ ap (λ kind. added l (acceptedAt kind s (l .sheet))) k)

@@ -8,7 +8,7 @@ use lib.ListN.{length, take, drop}
 use lib.Dec.{eqb}
 use native.Mathlib.Omega.{arith}
 use borrow.Author.Tests.{eqb-true}
-use Rattle.base.specs.Lists.{All}
+use Rattle.base.specs.Lists.{All, Bytes}
 use Rattle.base.proofs.TestLaws.{Tested, holds, fails, test, and-right}
 use Rattle.wire.specs.Numbers.{le16}
 use Rattle.wire.specs.Frame.{kindOf}
@@ -17,11 +17,12 @@ use Rattle.ledger.specs.declared.Ledger.{Ledger}
 use Rattle.ledger.specs.Ledger.{emptyLedger}
 use Rattle.ledger.specs.Take.{answerOf, ledgerAfter, mapAfter}
 use Rattle.book.specs.Book as books
-use Rattle.book.specs.Book.{starting, takeRecord, takeAll, isBroken}
+use Rattle.records.specs.Records.{isBroken}
+use Rattle.book.specs.Book.{starting, takeRecord, takeAll}
 use Rattle.book.proofs.AppendLaws.{refusedBefore, before-all}
 use Rattle.sums.specs.Accepted.{zeroMap, Accepted}
 use Rattle.roll.specs.Desk.{slotCount}
-use Rattle.day.specs.Day.{State, Arrival, message, entry, bytesOf, Bytes}
+use Rattle.day.specs.Day.{State, Arrival, message, entry, bytesOf}
 use Rattle.day.specs.Story.{completeRecords, emptyDay, NothingOpen}
 use Rattle.day.specs.Late.{answersTo}
 use Rattle.day.proofs.StepByStep.{nothing-open}

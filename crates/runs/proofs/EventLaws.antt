@@ -3,7 +3,7 @@
 use Prim.Native.Nat.{ℕ, zero, suc, _+_, _<_, _≤_}
 use mathlib.Core.Path.{_≡_, refl, ap, _∙_, sym, subst}
 use mathlib.Core.Logic.{_≢_}
-use mathlib.Core.List.{List, [], _∷_, _++_, map}
+use mathlib.Core.List.{List, [], _∷_, _++_, map, map-append}
 use mathlib.Core.Bool.{Bool, true, false, cond}
 use lib.ListN.{length, getD, set, replicate}
 use native.Mathlib.Omega.{arith}
@@ -17,6 +17,7 @@ use Rattle.marks.specs.Marks.{marked, markedWith}
 use Rattle.fields.specs.declared.Head.{Head}
 use Rattle.fields.specs.Fields.{headIn}
 use Rattle.fields.specs.Tests.{headListed}
+use Rattle.codec.specs.Fits.{StepInBytes, HeadInBytes}
 use Rattle.limits.specs.Limits.{exceeding, aboveLevel, lateStep, anyLate}
 use Rattle.fields.proofs.TestLaws.{listed-number}
 use Rattle.verdict.specs.Verdict.{eventVerdict}
@@ -25,8 +26,7 @@ use Rattle.ledger.specs.Ledger.{added}
 use Rattle.ledger.specs.Take.{unsound}
 use Rattle.slot.specs.declared.Slot.{Slot}
 use Rattle.slot.specs.Slot.{freeSlot, openedBy, steppedBy}
-use Rattle.roll.specs.Desk.{slotCount, emptyDesk, numberAt, placeOf, slotOf}
-use Rattle.roll.specs.Roll.{numberIn}
+use Rattle.roll.specs.Desk.{slotCount, emptyDesk, numberAt, placeOf, slotOf, numberIn}
 use Rattle.roll.proofs.SearchLaws.{missing, empty-sound}
 use Rattle.plan.specs.Rules.{stepIn}
 use Rattle.plan.proofs.MessageLaws.{opened, stepped, closed}
@@ -34,14 +34,14 @@ use Rattle.plan.proofs.ExactlyThen.{exactly-open, exactly-step, exactly-close}
 use Rattle.day.specs.Day.{State, message, answerTo, after, Sound}
 use Rattle.day.specs.Story.{Event, slotHolding, emptyDay}
 use Rattle.day.specs.Late.{steppedAll}
-use Rattle.day.proofs.EncodeLaws.{StepInBytes, HeadInBytes, Passed, verdictFor}
+use Rattle.day.proofs.EncodeLaws.{Passed, verdictFor}
 use Rattle.day.proofs.AfterLaws.{after-opened, after-stepped, after-closed}
 use Rattle.day.proofs.SoundDay.{not-unsound, sound-not-1, sound-stays-sound, sound-throughout}
 use Rattle.day.proofs.FoldedDay.{all-steps}
 use Rattle.runs.specs.Messages.{openOf, stepOf, closeOf, stepsOf, messagesFor}
 use Rattle.runs.specs.Runs.{Leads}
 use Rattle.runs.proofs.MessageLaws.{open-head, step-number, step-back, close-number}
-use Rattle.runs.proofs.LeadLaws.{map-append, leads-none, leads-one, leads-then}
+use Rattle.runs.proofs.LeadLaws.{leads-none, leads-one, leads-then}
 
 -- ---- a desk with one outage, in its first slot
 
@@ -101,7 +101,18 @@ module _ (l : Ledger) (m : List ℕ) (e : Event) (p : Passed (l .sheet) e) (u : 
       let unmarked : marked m (numberIn opening) ≡ false = ap (λ (x : Head). marked m (x .number)) h ∙ new in
       let absent : slotCount ≤ placeOf (numberIn opening) emptyDesk = omega arith in
       exactly-open l m emptyDesk opening refl .1
-      (u, (empty-sound, (refl, (refl, (p .there, (listed, (timely, (unmarked, (absent, omega arith)))))))))
+      (record {
+        ledger-sound = u;
+        desk-sound = empty-sound;
+        whole = refl;
+        long = refl;
+        sheet = p .there;
+        head-listed = listed;
+        timely = timely;
+        unmarked = unmarked;
+        not-open = absent;
+        room = omega arith;
+      })
 
   open-after : after (emptyDay l m) (message opening) ≡ holding (openedBy (e .head))
   open-after =
@@ -137,7 +148,20 @@ module _ (l : Ledger) (m : List ℕ) (e : Event) (p : Passed (l .sheet) e) (u : 
         let by11 = ap (λ (y : Step). exceeding (l .sheet .totals) (y .counts)) tells-it ∙ over in
         let by12 = (λ i. aboveLevel (levelOf (found-slot i .head .voltage)) (tells-it i .counts)) ∙ high in
         exactly-step l (markedWith m v) (deskWith x) stepping refl .1
-        (sound-not-1 (holding x) sound, (sound .desk, (refl, (refl, (p .there, (numbered, (there, (next, (few, (by10, (by11, by12)))))))))))
+        (record {
+          ledger-sound = sound-not-1 (holding x) sound;
+          desk-sound = sound .desk;
+          whole = refl;
+          long = refl;
+          sheet = p .there;
+          numbered = numbered;
+          found = there;
+          ordinal = next;
+          few = few;
+          timely = by10;
+          within = by11;
+          level = by12;
+        })
 
     step-after : after (holding x) (message stepping) ≡ holding (steppedBy x st)
     step-after =
@@ -197,7 +221,18 @@ module _ (l : Ledger) (m : List ℕ) (e : Event) (p : Passed (l .sheet) e) (u : 
         let there : placeOf (numberIn closing) (deskWith (slotHolding e)) < slotCount = omega (arith, closed-place) in
         let count = ap (λ (y : Slot). y .steps) (sym closed-slot) in
         exactly-close l (markedWith m v) (deskWith (slotHolding e)) closing refl .1
-        (sound-not-1 (holding (slotHolding e)) sound, (sound .desk, (refl, (refl, (p .there, (numbered, (there, (some, (count, room)))))))))
+        (record {
+          ledger-sound = sound-not-1 (holding (slotHolding e)) sound;
+          desk-sound = sound .desk;
+          whole = refl;
+          long = refl;
+          sheet = p .there;
+          numbered = numbered;
+          found = there;
+          some = some;
+          all = count;
+          room = room;
+        })
 
     close-after : after (holding (slotHolding e)) (message closing) ≡ closedAt
     close-after =

@@ -7,8 +7,9 @@ use mathlib.Core.Bool.{Bool, true}
 use lib.ListN.{replicate}
 use lib.Dec.{ltb}
 use borrow.Author.Tests.{ltb-true}
-use Rattle.base.specs.Lists.{All, every}
+use Rattle.base.specs.Lists.{All, every, Bytes}
 use Rattle.base.proofs.TestLaws.{and-left, and-right}
+use Rattle.base.proofs.ListLaws.{bytes-by-test}
 use Rattle.wire.specs.Cut.{cutIn, recordsOf}
 use Rattle.codes.specs.Codes.{rowOf, levelOf, causes, causeListed}
 use Rattle.annex.specs.Times.{minutesIn, isShort}
@@ -25,22 +26,16 @@ use Rattle.book.specs.Book.{takeRecord}
 use Rattle.sums.specs.Accepted.{zeroMap}
 use Rattle.slot.specs.Sound.{isFree, openSound, slotSound}
 use Rattle.roll.specs.Desk.{slotCount, emptyDesk, deskSound}
-use Rattle.plan.specs.Plan.{lookAnswer}
+use Rattle.plan.specs.Plan.{lookAnswer, planOf}
 use Rattle.plan.specs.Serve.{messageAnswer, ledgerServed, mapServed, deskServed}
-use Rattle.day.specs.Day.{Arrival, bytesOf, afterAll, acceptedOf, Bytes}
+use Rattle.day.specs.Day.{Arrival, bytesOf, afterAll, acceptedOf}
 use Rattle.day.specs.Story.{completeRecords, emptyDay, NothingOpen}
 use Rattle.day.specs.Late.{answersTo}
 use Rattle.day.proofs.StepByStep.{nothing-open}
 use Rattle.runs.specs.Runs.{Builds, recordsIn, arrivalsIn, InRuns, SameEnd, dayOf}
-use Rattle.runs.specs.Example.{book105, choice105, book105-accepted, cell, bookOfThree, twoRuns}
+use Rattle.runs.specs.Example.{book105, choice105, cell, bookOfThree, twoRuns}
+use Rattle.runs.proofs.Example.{book105-accepted}
 use Rattle.runs.proofs.DeskToo.{the-desk-too, cut-into-runs}
-
--- bytes, by a test
-bytes-by-test : (s : List ℕ) → every (λ b. ltb b 256) s ≡ true → Bytes s
-bytes-by-test [] e = tt
-bytes-by-test (b ∷ s) e =
-    let f : ℕ → Bool = λ x. ltb x 256 in
-    (ltb-true b 256 (and-left (f b) (every f s) e), bytes-by-test s (and-right (f b) (every f s) e))
 
 arrivals-by-test : (as′ : List Arrival) → every (λ a. every (λ b. ltb b 256) (bytesOf a)) as′ ≡ true → All (λ a. Bytes (bytesOf a)) as′
 arrivals-by-test [] e = tt
@@ -63,7 +58,7 @@ pub p7-built-up : SameEnd book105 (dayOf choice105 (recordsOf book105))
 p7-built-up = cut-into-runs book105 (bytes-by-test book105 refl) book105-accepted choice105
 
 pub three-in-runs : InRuns emptyLedger zeroMap twoRuns
-unfolding rowOf levelOf causes causeListed minutesIn isShort withStep simpleFigures marked marking markedWith eventVerdict recordAnswer verdictOf added soundLedger answerOf ledgerAfter mapAfter takeRecord isFree openSound slotSound deskSound lookAnswer messageAnswer ledgerServed mapServed deskServed
+unfolding rowOf levelOf causes causeListed minutesIn isShort withStep simpleFigures marked marking markedWith eventVerdict recordAnswer verdictOf added soundLedger answerOf ledgerAfter mapAfter takeRecord isFree openSound slotSound deskSound lookAnswer planOf messageAnswer ledgerServed mapServed deskServed
 three-in-runs = (by-computing _ _ _ _ refl refl refl, (by-computing _ _ _ _ refl refl refl, tt))
 
 three-records : recordsIn twoRuns ≡ recordsOf bookOfThree
@@ -80,5 +75,5 @@ pub three-figures :
     (afterAll (emptyDay emptyLedger zeroMap) (arrivalsIn twoRuns) .ledger .short ≡ 0) ×
     (cell (afterAll (emptyDay emptyLedger zeroMap) (arrivalsIn twoRuns) .ledger) 0 ≡ 2431 ∷ 69001 ∷ []) ×
     (cell (afterAll (emptyDay emptyLedger zeroMap) (arrivalsIn twoRuns) .ledger) 1 ≡ 19 ∷ 380 ∷ [])
-unfolding rowOf levelOf causes causeListed minutesIn isShort withStep simpleFigures marked marking markedWith eventVerdict recordAnswer verdictOf added soundLedger answerOf ledgerAfter mapAfter isFree openSound slotSound deskSound lookAnswer messageAnswer ledgerServed mapServed deskServed
+unfolding rowOf levelOf causes causeListed minutesIn isShort withStep simpleFigures marked marking markedWith eventVerdict recordAnswer verdictOf added soundLedger answerOf ledgerAfter mapAfter isFree openSound slotSound deskSound lookAnswer planOf messageAnswer ledgerServed mapServed deskServed
 three-figures = (refl, refl, refl, refl, refl)

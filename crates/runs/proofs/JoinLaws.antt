@@ -2,46 +2,28 @@
 -- other. A number's deeds are its open, its steps and its close, in each of the days and in both together. Assumes nothing.
 use Prim.Native.Nat.{ℕ}
 use mathlib.Core.Path.{_≡_, refl, ap, _∙_, sym, subst}
-use mathlib.Core.List.{List, [], _∷_, _++_, map, append-nil, append-assoc}
+use mathlib.Core.List.{List, [], _∷_, _++_, map, append-nil, append-assoc, map-append}
 use mathlib.Core.Bool.{Bool, true, false, cond}
 use lib.Dec.{eqb}
-use Rattle.base.specs.Lists.{All, keep}
+use Rattle.base.specs.Lists.{All, keep, Bytes}
+use Rattle.base.proofs.ListLaws.{all-front, all-back, keep-append, all-append}
 use Rattle.annex.specs.declared.Step.{Step}
 use Rattle.fields.specs.declared.Head.{Head}
 use Rattle.ledger.specs.declared.Ledger.{Ledger}
 use Rattle.book.specs.Book as book
 use Rattle.book.specs.Book.{starting, takeAll}
 use Rattle.slot.specs.Slot.{freeSlot}
-use Rattle.day.specs.Day.{State, Arrival, bytesOf, answerTo, after, afterAll, acceptedOf, Bytes}
+use Rattle.day.specs.Day.{State, Arrival, bytesOf, answerTo, after, afterAll, acceptedOf}
 use Rattle.day.specs.Story.{Deed, opens, steps, closes, takes, deedOf, Event, eventFor, closings, names, about, openDeeds, recordOf, completeIn, emptyDay, NothingOpen}
 use Rattle.day.proofs.StepByStep.{slots-reused, day-in-records, in-order}
 use Rattle.runs.specs.Runs.{Builds}
-use Rattle.runs.proofs.LeadLaws.{map-append, all-append, after-append}
+use Rattle.runs.proofs.LeadLaws.{after-append}
 
 -- ---- lists of deeds that are put together
-
-all-left : {A : Type 0} (P : A → Type 0) (xs ys : List A) → All P (xs ++ ys) → All P xs
-all-left P [] ys a = tt
-all-left P (x ∷ xs) ys a = (a .0, all-left P xs ys (a .1))
-
-all-right : {A : Type 0} (P : A → Type 0) (xs ys : List A) → All P (xs ++ ys) → All P ys
-all-right P [] ys a = a
-all-right P (x ∷ xs) ys a = all-right P xs ys (a .1)
 
 all-two : {A : Type 0} {P Q R : A → Type 0} → ((x : A) → P x → Q x → R x) → (xs : List A) → All P xs → All Q xs → All R xs
 all-two f [] a b = tt
 all-two f (x ∷ xs) a b = (f x (a .0) (b .0), all-two f xs (a .1) (b .1))
-
-keep-append : {A : Type 0} (f : A → Bool) (xs ys : List A) → keep f (xs ++ ys) ≡ keep f xs ++ keep f ys
-keep-append f [] ys = refl
-keep-append f (x ∷ xs) ys = go (f x) (keep-append f xs ys)
-  where
-    go :
-        (t : Bool) →
-        keep f (xs ++ ys) ≡ keep f xs ++ keep f ys →
-        cond t (x ∷ keep f (xs ++ ys)) (keep f (xs ++ ys)) ≡ cond t (x ∷ keep f xs) (keep f xs) ++ keep f ys
-    go true e = ap (λ zs. x ∷ zs) e
-    go false e = e
 
 closings-append : (xs ys : List Deed) → closings (xs ++ ys) ≡ closings xs ++ closings ys
 closings-append [] ys = refl
@@ -146,10 +128,10 @@ records-join xs ys a b c =
     let whole : All (InOrder (xs ++ ys)) (closings xs ++ closings ys) = subst (All (InOrder (xs ++ ys))) (closings-append xs ys) c in
     let before : completeIn (xs ++ ys) xs ≡ completeIn xs xs =
     complete-same (xs ++ ys) xs xs
-    (all-two (told-before xs ys) (closings xs) (all-left (InOrder (xs ++ ys)) (closings xs) (closings ys) whole) a) in
+    (all-two (told-before xs ys) (closings xs) (all-front (InOrder (xs ++ ys)) (closings xs) (closings ys) whole) a) in
     let behind : completeIn (xs ++ ys) ys ≡ completeIn ys ys =
     complete-same (xs ++ ys) ys ys
-    (all-two (told-after xs ys) (closings ys) (all-right (InOrder (xs ++ ys)) (closings xs) (closings ys) whole) b) in
+    (all-two (told-after xs ys) (closings ys) (all-back (InOrder (xs ++ ys)) (closings xs) (closings ys) whole) b) in
     complete-append (xs ++ ys) xs ys ∙ (λ i. before i ++ behind i)
 
 -- ---- days

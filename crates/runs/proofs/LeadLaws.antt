@@ -4,19 +4,12 @@ use mathlib.Core.List.{List, [], _∷_, _++_, map}
 use mathlib.Core.Bool.{cond}
 use borrow.Author.Tests.{eq-eqb}
 use Rattle.base.specs.Lists.{All}
+use Rattle.base.proofs.ListLaws.{all-append}
 use Rattle.day.specs.Day.{State, Arrival, answerTo, after, afterAll, acceptedOf}
 use Rattle.day.specs.Late.{answersTo}
 use Rattle.runs.specs.Runs.{Leads}
 
 -- ---- lists that are put together
-
-pub map-append : {A B : Type 0} (f : A → B) (xs ys : List A) → map f (xs ++ ys) ≡ map f xs ++ map f ys
-map-append f [] ys = refl
-map-append f (x ∷ xs) ys = ap (λ zs. f x ∷ zs) (map-append f xs ys)
-
-pub all-append : {A : Type 0} (P : A → Type 0) (xs ys : List A) → All P xs → All P ys → All P (xs ++ ys)
-all-append P [] ys a b = b
-all-append P (x ∷ xs) ys a b = (a .0, all-append P xs ys (a .1) b)
 
 pub after-append : (st : State) (xs ys : List Arrival) → afterAll st (xs ++ ys) ≡ afterAll (afterAll st xs) ys
 after-append st [] ys = refl

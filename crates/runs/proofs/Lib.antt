@@ -6,4 +6,5 @@ pub mod BuiltUp
 pub mod TellLaws
 pub mod JoinLaws
 pub mod DeskToo
+pub mod Example
 pub mod ExampleLaws

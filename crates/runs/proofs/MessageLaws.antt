@@ -1,28 +1,26 @@
 -- A message says what was written into it: numbers come back byte by byte, and its length is the one that it states. Assumes nothing.
 use Prim.Native.Nat.{ℕ, _+_, _/_, _%_, _<_, _≤_}
-use mathlib.Core.Path.{_≡_, refl, _∙_}
-use mathlib.Core.List.{List, [], _∷_, _++_}
+use mathlib.Core.Path.{_≡_, refl, sym, ap, _∙_}
+use mathlib.Core.List.{List, [], _∷_, _++_, append-nil}
 use mathlib.Core.Bool.{true}
 use lib.ListN.{length, getD}
 use native.Mathlib.Omega.{arith}
-use Rattle.base.specs.Lists.{All}
-use Rattle.wire.specs.Numbers.{countsAt}
+use Rattle.base.specs.Lists.{All, Byte, Bytes}
+use Rattle.base.proofs.ListLaws.{all-append}
+use Rattle.wire.specs.Numbers.{countsAt, le2}
 use Rattle.wire.specs.Frame.{framed, kindOf}
+use Rattle.wire.proofs.WriteLaws.{of-two, of-four}
 use Rattle.annex.specs.declared.Step.{Step}
 use Rattle.fields.specs.declared.Head.{Head}
 use Rattle.fields.specs.Fields.{headIn}
-use Rattle.roll.specs.Roll.{numberIn}
+use Rattle.codec.specs.Codec.{fourEach, frame, headBytes, stepNumbers}
+use Rattle.codec.specs.Fits.{HeadInBytes, StepInBytes}
+use Rattle.codec.proofs.DecodeLaws.{two-bytes, fours-bytes, frame-bytes, head-bytes, head-back}
+use Rattle.roll.specs.Desk.{numberIn}
 use Rattle.plan.specs.Rules.{ordinalIn, stepIn}
-use Rattle.day.specs.Day.{Bytes}
-use Rattle.day.specs.Story.{Event, put32}
-use Rattle.day.proofs.EncodeLaws.{back16, back32, StepInBytes, HeadInBytes, InBytes}
+use Rattle.day.specs.Story.{Event}
+use Rattle.day.proofs.EncodeLaws.{InBytes}
 use Rattle.runs.specs.Messages.{openOf, stepOf, closeOf, stepsOf, messagesFor}
-
-low : (x : ℕ) → x % 256 < 256
-low x = omega arith
-
-four-bytes : (x : ℕ) (rest : List ℕ) → Bytes rest → Bytes (put32 x rest)
-four-bytes x rest b = (low x, (low (x / 256), (low (x / 65536), (low (x / 16777216), b))))
 
 -- ---- an open
 
@@ -37,19 +35,10 @@ module _ (h : Head) (f : HeadInBytes h) where
   open-long = refl
 
   pub open-head : headIn (openOf h) ≡ h
-  open-head =
-      λ t.
-      record {
-        number = back16 (h .number) (f .number) t;
-        typ = h .typ;
-        voltage = h .voltage;
-        cause = h .cause;
-        t0 = back32 (h .t0) (f .t0) t;
-      }
+  open-head = ap headIn (sym (ap (λ (r : List ℕ). frame 13 16 ++ r) (append-nil (headBytes h)))) ∙ head-back h f 13 16 []
 
   pub open-bytes : Bytes (openOf h)
-  open-bytes =
-      (low 13, (low (13 / 256), (low 16, (low (16 / 256), (low (h .number), (low (h .number / 256), (f .typ, (f .voltage, (f .cause, four-bytes (h .t0) [] tt)))))))))
+  open-bytes = all-append Byte (frame 13 16) (headBytes h) (frame-bytes 13 16) (head-bytes h)
 
 -- ---- a step
 
@@ -64,24 +53,22 @@ module _ (v ordinal : ℕ) (st : Step) where
   step-long = refl
 
   pub step-number : v < 65536 → numberIn (stepOf v ordinal st) ≡ v
-  step-number f = back16 v f
+  step-number f = of-two v f
 
   pub step-ordinal : ordinalIn (stepOf v ordinal st) ≡ ordinal
   step-ordinal = refl
 
   pub step-back : StepInBytes st → stepIn (stepOf v ordinal st) ≡ st
   step-back f =
-      let c : countsAt (stepOf v ordinal st) 11 ≡ st .counts =
-      (λ t. back32 _ (f .nn) t ∷ back32 _ (f .vn) t ∷ back32 _ (f .vvn) t ∷ []) ∙ f .three in
-      λ t. record { time = back32 (st .time) (f .time) t; counts = c t }
+      let counts : countsAt (stepOf v ordinal st) 11 ≡ st .counts =
+      (λ t. of-four _ (f .nn) t ∷ of-four _ (f .vn) t ∷ of-four _ (f .vvn) t ∷ []) ∙ f .three in
+      λ t. record { time = of-four (st .time) (f .time) t; counts = counts t }
 
   pub step-bytes : ordinal < 256 → Bytes (stepOf v ordinal st)
   step-bytes f =
-      let c : ℕ → ℕ = λ k. getD (st .counts) k 0 in
-      let b2 : Bytes (put32 (c 2) []) = four-bytes (c 2) [] tt in
-      let b1 : Bytes (put32 (c 1) (put32 (c 2) [])) = four-bytes (c 1) (put32 (c 2) []) b2 in
-      let b0 : Bytes (put32 (c 0) (put32 (c 1) (put32 (c 2) []))) = four-bytes (c 0) (put32 (c 1) (put32 (c 2) [])) b1 in
-      (low 23, (low (23 / 256), (low 17, (low (17 / 256), (low v, (low (v / 256), (f, four-bytes (st .time) (put32 (c 0) (put32 (c 1) (put32 (c 2) []))) b0)))))))
+      let rest : List ℕ = ordinal ∷ fourEach (stepNumbers (st ∷ [])) in
+      all-append Byte (frame 23 17) (le2 v ++ rest) (frame-bytes 23 17)
+      (all-append Byte (le2 v) rest (two-bytes v) (f, fours-bytes (stepNumbers (st ∷ []))))
 
 -- ---- a close
 
@@ -96,13 +83,14 @@ module _ (v taken : ℕ) where
   close-long = refl
 
   pub close-number : v < 65536 → numberIn (closeOf v taken) ≡ v
-  close-number f = back16 v f
+  close-number f = of-two v f
 
   pub close-count : ordinalIn (closeOf v taken) ≡ taken
   close-count = refl
 
   pub close-bytes : taken < 256 → Bytes (closeOf v taken)
-  close-bytes f = (low 7, (low (7 / 256), (low 18, (low (18 / 256), (low v, (low (v / 256), (f, tt)))))))
+  close-bytes f =
+      all-append Byte (frame 7 18) (le2 v ++ (taken ∷ [])) (frame-bytes 7 18) (all-append Byte (le2 v) (taken ∷ []) (two-bytes v) (f, tt))
 
 -- ---- the messages of an event are of bytes
 

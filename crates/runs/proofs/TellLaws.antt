@@ -1,18 +1,18 @@
 -- What the messages of an event tell: its open, its steps and its close, and so the complete record of just that event. Assumes nothing.
 use Prim.Native.Nat.{ℕ, _+_, _<_}
 use mathlib.Core.Path.{_≡_, refl, ap, _∙_}
-use mathlib.Core.List.{List, [], _∷_, _++_, map}
+use mathlib.Core.List.{List, [], _∷_, _++_, map, map-append}
 use mathlib.Core.Bool.{cond}
 use lib.ListN.{length}
 use borrow.Author.Tests.{eq-eqb}
 use Rattle.base.specs.Lists.{All}
 use Rattle.annex.specs.declared.Step.{Step}
+use Rattle.codec.specs.Fits.{StepInBytes}
 use Rattle.day.specs.Day.{message}
 use Rattle.day.specs.Story.{Deed, opens, steps, closes, deedOf, Event, headFor, stepsFor, eventFor, openDeeds, recordOf, completeIn, completeRecords}
-use Rattle.day.proofs.EncodeLaws.{StepInBytes, InBytes}
+use Rattle.day.proofs.EncodeLaws.{InBytes}
 use Rattle.runs.specs.Messages.{closeOf, stepsOf, messagesFor}
 use Rattle.runs.proofs.MessageLaws.{open-head, step-number, step-back, close-number}
-use Rattle.runs.proofs.LeadLaws.{map-append}
 
 -- ---- what each message does
 

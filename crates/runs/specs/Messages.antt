@@ -2,21 +2,23 @@
 use Prim.Native.Nat.{ℕ, _+_}
 use mathlib.Core.List.{List, [], _∷_, _++_}
 use lib.ListN.{length}
+use Rattle.wire.specs.Numbers.{le2}
 use Rattle.annex.specs.declared.Step.{Step}
 use Rattle.fields.specs.declared.Head.{Head}
-use Rattle.day.specs.Story.{Event, eventIn, put16, putHead, putStep}
+use Rattle.codec.specs.Codec.{fourEach, frame, headBytes, stepNumbers}
+use Rattle.day.specs.Story.{Event, eventIn}
 
 -- "16 open: number 2, type 1, voltage 1, cause 1, T0; 13"
 abbrev pub openOf : Head → List ℕ
-openOf h = put16 13 (put16 16 (putHead h []))
+openOf h = frame 13 16 ++ headBytes h
 
 -- "17 step: number 2, ordinal 1, time, 3 counts; 23"
 abbrev pub stepOf : ℕ → ℕ → Step → List ℕ
-stepOf v ordinal st = put16 23 (put16 17 (put16 v (ordinal ∷ putStep st [])))
+stepOf v ordinal st = frame 23 17 ++ (le2 v ++ (ordinal ∷ fourEach (stepNumbers (st ∷ []))))
 
 -- "18 close: number 2, steps taken 1; 7"
 abbrev pub closeOf : ℕ → ℕ → List ℕ
-closeOf v taken = put16 7 (put16 18 (put16 v (taken ∷ [])))
+closeOf v taken = frame 7 18 ++ (le2 v ++ (taken ∷ []))
 
 -- "A step names its outage and carries ordinal 1, 2, 3 and so on": the steps of outage v that come after so many taken
 abbrev pub stepsOf : ℕ → ℕ → List Step → List (List ℕ)

@@ -5,14 +5,14 @@ use mathlib.Core.Path.{_≡_}
 use mathlib.Core.List.{List, [], _∷_, _++_, map}
 use mathlib.Core.Bool.{Bool, _&&_, cond}
 use lib.Dec.{eqb}
-use Rattle.base.specs.Lists.{All}
+use Rattle.base.specs.Lists.{All, Bytes}
 use Rattle.wire.specs.Frame.{kindOf}
 use Rattle.ledger.specs.declared.Ledger.{Ledger}
 use Rattle.ledger.specs.Ledger.{emptyLedger}
 use Rattle.book.specs.Book.{starting, takeAll, afterBook}
 use Rattle.sums.specs.Accepted.{zeroMap}
 use Rattle.roll.specs.Desk.{emptyDesk}
-use Rattle.day.specs.Day.{State, Arrival, message, entry, bytesOf, afterAll, acceptedOf, Bytes}
+use Rattle.day.specs.Day.{State, Arrival, message, entry, bytesOf, afterAll, acceptedOf}
 use Rattle.day.specs.Story.{completeRecords, emptyDay, NothingOpen}
 use Rattle.day.specs.Late.{answersTo}
 use Rattle.runs.specs.Messages.{messagesOf}

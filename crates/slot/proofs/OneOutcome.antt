@@ -5,6 +5,8 @@ use Rattle.slot.proofs.Slot.free.Kinds as free-kinds
 use Rattle.slot.proofs.Slot.free.Reads as free
 use Rattle.slot.proofs.Slot.opened.Kinds as opened-kinds
 use Rattle.slot.proofs.Slot.opened.Reads as opened
+use Rattle.slot.proofs.Slot.course.Kinds as course-kinds
+use Rattle.slot.proofs.Slot.course.Reads as course
 use Rattle.slot.proofs.Slot.stepped.Kinds as stepped-kinds
 use Rattle.slot.proofs.Slot.stepped.Reads as stepped
 use Rattle.slot.proofs.Slot.is_free.Kinds as is-free-kinds
@@ -19,6 +21,9 @@ free-one κs a x y v w p q = (alike p q, refl)
 
 pub opened-one : OneOutcome opened-kinds.ps opened-kinds.r opened.Post
 opened-one κs a x y v w p q = (alike p q, refl)
+
+pub course-one : OneOutcome course-kinds.ps course-kinds.r course.Post
+course-one κs a x y v w p q = (alike p q, refl)
 
 pub stepped-one : OneOutcome stepped-kinds.ps stepped-kinds.r stepped.Post
 stepped-one κs a x y v w p q = (alike p q, refl)

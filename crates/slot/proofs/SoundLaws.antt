@@ -10,9 +10,10 @@ use borrow.Author.Tests.{leb-true, ltb-true, eqb-true, lt-ltb, le-leb, not-true}
 use Rattle.base.specs.Lists.{All}
 use Rattle.base.proofs.TestLaws.{and-left, and-right, or-other, Tested, holds, fails, test}
 use Rattle.base.proofs.ChainLaws.{each-holds}
-use Rattle.codes.specs.Codes.{levelOf}
-use Rattle.annex.specs.Figures.{customersAt, halvesAt, Room}
-use Rattle.annex.specs.Bounds.{Within}
+use Rattle.codes.specs.Codes.{levels, levelOf}
+use Rattle.annex.specs.Figures.{customersAt, halvesAt}
+use Rattle.annex.specs.Figure.{Off, Halves, mostOf}
+use Rattle.annex.specs.Inside.{Room, Within}
 use Rattle.annex.proofs.FoldLaws.{each-level}
 use Rattle.fields.specs.Tests.{headListed}
 use Rattle.limits.specs.Limits.{figuresAbove}
@@ -99,17 +100,14 @@ module _ (s : Slot) where
       (eqb-true _ _ (and-left (eqb (s .last) (s .head .t0)) _ both), and-right (eqb (s .last) (s .head .t0)) _ both)
 
   -- the figures are within what one event may add
-  pub open-within : openSound s ≡ true → (level : ℕ) → level < 3 → Within (s .figures) level
-  open-within o level l =
-      let few = open-customers o level l in
-      (few, brief _ _ (s .head .t0) (s .last) few (open-halves o level l) (open-ends o))
+  pub open-within : openSound s ≡ true → (level : ℕ) → level < levels → Within (s .figures) level
+  open-within o level l Off = open-customers o level l
+  open-within o level l Halves = brief _ _ (s .head .t0) (s .last) (open-customers o level l) (open-halves o level l) (open-ends o)
 
   open-room : openSound s ≡ true → Room (s .figures)
   open-room o =
-      let nn : Within (s .figures) 0 = open-within o 0 (omega arith) in
-      let vn : Within (s .figures) 1 = open-within o 1 (omega arith) in
-      let vvn : Within (s .figures) 2 = open-within o 2 (omega arith) in
-      record { nn = omega arith; vn = omega arith; vvn = omega arith }
+      let most : (h : ℕ) → h < levels → halvesAt (s .figures) h ≤ mostOf Halves = λ h l. open-within o h l Halves in
+      record { nn = omega (arith, most 0 (omega arith)); vn = omega (arith, most 1 (omega arith)); vvn = omega (arith, most 2 (omega arith)) }
 
   -- the tests of a free slot, after that of its number
   abbrev zeros : List Bool

@@ -5,6 +5,7 @@ use Prim.Native.Nat.{ℕ, _*_, _-_}
 use mathlib.Core.Bool.{Bool, _&&_, _||_, not}
 use lib.Dec.{leb, ltb, eqb}
 use Rattle.codes.specs.Codes.{levelOf}
+use Rattle.codes.specs.Ranges.{latest, mostCustomers}
 use Rattle.annex.specs.declared.Figures.{Figures}
 use Rattle.annex.specs.Figures.{customersAt, halvesAt}
 use Rattle.fields.specs.Tests.{headListed}
@@ -32,14 +33,14 @@ isFree s =
 
 -- "each largest count at most 10,000,000", "half minutes at most 2 x largest count x (last time - T0)"
 abbrev pub levelWithin : ℕ → ℕ → ℕ → Bool
-levelWithin customers halves minutes = leb customers 10000000 && leb halves (2 * customers * minutes)
+levelWithin customers halves minutes = leb customers mostCustomers && leb halves (2 * customers * minutes)
 
 unfoldable pub openSound : Slot → Bool
 openSound s =
     headListed (s .head) &&
     ltb (s .head .t0) 527040 &&
     leb (s .head .t0) (s .last) &&
-    leb (s .last) 600000 &&
+    leb (s .last) latest &&
     leb (s .steps) 64 &&
     levelWithin (customersAt (s .figures) 0) (halvesAt (s .figures) 0) (s .last - s .head .t0) &&
     levelWithin (customersAt (s .figures) 1) (halvesAt (s .figures) 1) (s .last - s .head .t0) &&

@@ -2,9 +2,10 @@
 ghost use mathlib.Core.Path.{_≡_};
 ghost use mathlib.Core.Bool.{true};
 ghost use Prim.Native.Nat.{_-_, _≤_};
-ghost use Rattle.annex.specs.Figures.{Room};
-ghost use Rattle.slot.specs.Slot.{freeSlot, openedBy, steppedBy};
+ghost use Rattle.annex.specs.Inside.{Ready};
+ghost use Rattle.slot.specs.Slot.{freeSlot, openedBy, courseIn, steppedBy};
 ghost use Rattle.slot.specs.Sound.{noCustomers, noHalves, isFree, levelWithin, openSound, slotSound};
+use annex::Course;
 use annex::Customers;
 use annex::Figures;
 use annex::HalfMinutes;
@@ -39,7 +40,7 @@ fn no_halves(f: Figures) -> bool
 fn level_within(customers: Customers, halves: HalfMinutes, minutes: u32) -> bool
     ensures { λ r. ⌜ r ≡ levelWithin (customers .0) (halves .0) minutes ⌝ }
 {
-    if 10000000 < customers.0 {
+    if annex::MOST_OFF < customers.0 {
         return false;
     }
     halves.0 <= 2 * customers.0 * minutes as u64
@@ -76,19 +77,30 @@ impl Slot {
         }
     }
 
+    // What the outage's steps have come to.
+    pub fn course(self) -> Course
+        ensures { λ r. ⌜ r ≡ courseIn self ⌝ }
+    {
+        let figures = self.figures;
+        Course {
+            last: self.last,
+            figures,
+        }
+    }
+
     // The outage with one step more.
     pub fn stepped(self, step: Step) -> Slot
-        requires { ⌜ Room (self .figures) × (self .steps ≤ 64) × (self .last ≤ step .time) × (step .time ≤ 600000) ⌝ }
+        requires { ⌜ Ready (courseIn self) step × (self .steps ≤ 64) ⌝ }
         ensures { λ r. ⌜ r ≡ steppedBy self step ⌝ }
     {
-        let f = self.figures;
         let head = self.head;
-        let counts = step.counts;
+        let course = self.course().with(step);
+        let figures = course.figures;
         Slot {
             head,
-            last: step.time,
+            last: course.last,
             steps: self.steps + 1,
-            figures: f.with_step(counts, step.time - self.last),
+            figures,
         }
     }
 
@@ -125,7 +137,7 @@ impl Slot {
         if !head.listed() {
             return false;
         }
-        if (527040 <= head.t0) | (self.last < head.t0) | (600000 < self.last) | (64 < self.steps) {
+        if (527040 <= head.t0) | (self.last < head.t0) | (codes::LATEST < self.last) | (64 < self.steps) {
             return false;
         }
         let minutes = self.last - head.t0;

@@ -4,7 +4,7 @@ use Prim.Native.Nat.{ℕ, _+_, _*_, _<_}
 use mathlib.Core.Path.{_≡_, refl, sym, ap, _∙_}
 use mathlib.Core.List.{List, [], _∷_, map}
 use mathlib.Core.Bool.{Bool, true, false, _&&_, not, cond, true≢false}
-use lib.ListN.{length, getD-replicate}
+use lib.ListN.{length, getD, getD-replicate}
 use lib.Dec.{eqb}
 use native.Mathlib.Nat.{add-zero, zero-add}
 use native.Mathlib.Omega.{arith}
@@ -13,12 +13,13 @@ use Rattle.base.specs.Lists.{sum, keep}
 use Rattle.base.proofs.TestLaws.{Tested, holds, fails, test, and-left, and-right}
 use Rattle.wire.specs.Frame.{kindOf}
 use Rattle.wire.specs.Cut.{recordsOf}
-use Rattle.codes.specs.Codes.{rowOf}
+use Rattle.codes.specs.Codes.{rows, levels, rowOf}
 use Rattle.annex.specs.declared.Figures.{Figures}
 use Rattle.annex.specs.Times.{isShort}
-use Rattle.annex.specs.Figures.{nothing, customersAt, halvesAt}
-use Rattle.annex.specs.Annex.{simple, stepped, njh, njhtjh2, startOf, endOf, shortEvent, figuresOf}
-use Rattle.annex.proofs.FoldLaws.{each-level, figures-customers, figures-halves}
+use Rattle.annex.specs.Figures.{nothing}
+use Rattle.annex.specs.Figure.{Figure, Off, Halves, given, figureAt}
+use Rattle.annex.specs.Annex.{simple, stepped, startOf, endOf, shortEvent, figuresOf}
+use Rattle.annex.proofs.FoldLaws.{nothing-gives, figures-given}
 use Rattle.fields.specs.declared.Sheet.{Sheet}
 use Rattle.fields.specs.declared.Head.{Head}
 use Rattle.fields.specs.Fields.{sheetIn, headIn, simpleIn, stepsIn}
@@ -27,24 +28,25 @@ use Rattle.verdict.specs.declared.Verdict.{Verdict}
 use Rattle.verdict.specs.Verdict.{sheetVerdict, eventVerdict}
 use Rattle.record.specs.Rules.{byKind}
 use Rattle.record.specs.Verdict.{acceptedAt}
-use Rattle.ledger.specs.declared.Cell.{Cell}
+use Rattle.ledger.specs.declared.TypeRow.{TypeRow}
 use Rattle.ledger.specs.declared.Ledger.{Ledger}
-use Rattle.ledger.specs.Ledger.{emptyLedger, noCell, cellOf, added}
+use Rattle.ledger.specs.Ledger.{emptyLedger, noCell, emptyRow, noRow, held, heldIn, added}
+use Rattle.ledger.specs.Inside.{Shaped}
 use Rattle.ledger.specs.Take.{answerOf, ledgerAfter}
-use Rattle.ledger.proofs.LedgerLaws.{added-sheet, grown-at}
-use Rattle.ledger.proofs.TakeLaws.{accepted-verdict, accepted-adds, refused-hands-back, cells-length-kept}
-use Rattle.ledger.proofs.ExactlyThen.{exactly-0}
+use Rattle.ledger.proofs.CellLaws.{added-sheet, added-held, empty-shaped}
+use Rattle.ledger.proofs.TakeLaws.{accepted-verdict, accepted-adds, refused-hands-back, shape-kept}
+use Rattle.ledger.proofs.ExactlyThen.{accepted-rules}
 use Rattle.book.specs.Book.{State, starting, takeRecord, takeAll}
-use Rattle.sums.specs.Accepted.{zeroMap, Accepted, eventIn, rowIn, acceptedEvents, shortOnes, sumOfCustomers, sumOfHalves}
+use Rattle.sums.specs.Accepted.{zeroMap, Accepted, eventIn, rowIn, acceptedEvents, shortOnes, sumOf}
 use Rattle.sums.specs.Theorem.{refusedOnes, Adds, eventsOf, IsSum}
-use Rattle.sums.proofs.SumLaws.{sum-kept, sum-of-ones, count-kept}
+use Rattle.base.proofs.SumLaws.{sum-kept, sum-of-ones, count-kept}
 
 -- the verdict on the event that a record tells, and the ledger with a sheet put in
 abbrev eventOf : Sheet → List ℕ → Verdict
 eventOf sheet s = eventVerdict sheet (headIn s) (endOf (eventIn s)) (figuresOf (eventIn s))
 
 abbrev withSheet : Ledger → Sheet → Ledger
-withSheet l next = record { sheet = next; events = l .events; short = l .short; cells = l .cells }
+withSheet l next = record { sheet = next; events = l .events; short = l .short; rows = l .rows }
 
 event-verdict : (s : List ℕ) (sheet : Sheet) → eqb (kindOf s) 1 ≡ false → acceptedAt (kindOf s) s sheet ≡ eventOf sheet s
 event-verdict s sheet k = go (test (eqb (kindOf s) 2))
@@ -68,24 +70,24 @@ event-asked kind x t k e = go (eqb kind 1) (eqb kind 2) (eqb kind 3) t k e
     go false false true t k e = e
     go false false false t k e = absurd (true≢false t)
 
-listed-row : (h : Head) → headListed h ≡ true → rowOf (h .typ) < 7
+listed-row : (h : Head) → headListed h ≡ true → rowOf (h .typ) < rows
 listed-row h e = ltb-true _ _ (and-right (not (eqb (h .number) 0)) _ (and-left _ _ (and-left _ _ e)))
 
-accepted-row : (l : Ledger) (m s : List ℕ) → answerOf l m s ≡ 0 → eqb (kindOf s) 1 ≡ false → rowIn s < 7
+accepted-row : (l : Ledger) (m s : List ℕ) → answerOf l m s ≡ 0 → eqb (kindOf s) 1 ≡ false → rowIn s < rows
 accepted-row l m s a k =
-    let c = exactly-0 l m s .0 a in
-    listed-row (headIn s) (not-false _ (event-asked (kindOf s) (not (headListed (headIn s))) (c .1 .1 .0) k (c .1 .1 .1 .1 .1 .1 .0)))
+    let c = accepted-rules l m s a in
+    listed-row (headIn s) (not-false _ (event-asked (kindOf s) (not (headListed (headIn s))) (c 3) k (c 7)))
 
 -- a number of the ledger that no sheet changes, and that an event raises by what it counts: all the accepted events together raise it by their sum
 module _
     (value : Ledger → ℕ)
     (counts : List ℕ → ℕ)
     (by-sheet : (l : Ledger) (next : Sheet) → value (withSheet l next) ≡ value l)
-    (by-event : (l : Ledger) (s : List ℕ) → length (l .cells) ≡ 21 → rowIn s < 7 → value (added l (eventOf (l .sheet) s)) ≡ value l + counts s)
+    (by-event : (l : Ledger) (s : List ℕ) → Shaped l → rowIn s < rows → value (added l (eventOf (l .sheet) s)) ≡ value l + counts s)
   where
     by-record :
         (l : Ledger) (m s : List ℕ) →
-        length (l .cells) ≡ 21 →
+        Shaped l →
         value (ledgerAfter l m s) ≡ value l + cond (eqb (answerOf l m s) 0 && not (eqb (kindOf s) 1)) (counts s) 0
     by-record l m s n = go (test (eqb (answerOf l m s) 0)) (test (eqb (kindOf s) 1))
       where
@@ -111,12 +113,12 @@ module _
 
     by-records :
         (st : State) (ss : List (List ℕ)) →
-        length (st .ledger .cells) ≡ 21 →
+        Shaped (st .ledger) →
         value (takeAll st ss .ledger) ≡ value (st .ledger) + sum (map counts (acceptedEvents st ss))
     unfolding takeRecord
     by-records st [] n = sym (add-zero _)
     by-records st (s ∷ ss) n =
-        by-records (takeRecord st s) ss (cells-length-kept (st .ledger) (st .map) s ∙ n) ∙
+        by-records (takeRecord st s) ss (shape-kept (st .ledger) (st .map) s n) ∙
         ap (λ x. x + sum (map counts (acceptedEvents (takeRecord st s) ss))) (by-record (st .ledger) (st .map) s n) ∙
         one-more (eqb (answerOf (st .ledger) (st .map) s) 0 && not (eqb (kindOf s) 1)) (value (st .ledger)) s (acceptedEvents (takeRecord st s) ss)
       where
@@ -163,20 +165,12 @@ module _ (l : Ledger) (s : List ℕ) where
       go true false = e
       go false short = refl
 
-  module _ (n : length (l .cells) ≡ 21) (b : rowIn s < 7) (row h : ℕ) (c : h < 3) where
-    event-customers : cellOf after row h .customers .0 ≡ cellOf l row h .customers .0 + cond (countsIn row s) (njh h (eventIn s)) 0
-    unfolding added eventVerdict
-    event-customers =
-        grown-at (l .cells) (shown (isShort (headIn s .t0) (endOf (eventIn s)))) (rowIn s) row h n b c .0 ∙
-        ap (λ x. cellOf l row h .customers .0 + x)
-        (if-counted (λ f. customersAt f h) (njh h (eventIn s)) (each-level (λ h. customersAt nothing h ≡ 0) refl refl refl h c) (figures-customers (eventIn s) h c) row)
-
-    event-halves : cellOf after row h .halves .0 ≡ cellOf l row h .halves .0 + cond (countsIn row s) (njhtjh2 h (eventIn s)) 0
-    unfolding added eventVerdict
-    event-halves =
-        grown-at (l .cells) (shown (isShort (headIn s .t0) (endOf (eventIn s)))) (rowIn s) row h n b c .1 ∙
-        ap (λ x. cellOf l row h .halves .0 + x)
-        (if-counted (λ f. halvesAt f h) (njhtjh2 h (eventIn s)) (each-level (λ h. halvesAt nothing h ≡ 0) refl refl refl h c) (figures-halves (eventIn s) h c) row)
+  event-cell :
+      Shaped l → rowIn s < rows → (x : Figure) (row h : ℕ) → h < levels → heldIn x after row h ≡ heldIn x l row h + cond (countsIn row s) (given x h (eventIn s)) 0
+  unfolding eventVerdict
+  event-cell n b x row h c =
+      added-held l (eventOf (l .sheet) s) n b x row h c ∙
+      ap (λ y. heldIn x l row h + y) (if-counted (λ f. figureAt x f h) (given x h (eventIn s)) (nothing-gives x h c) (figures-given x (eventIn s) h c) row)
 
   event-counted : after .events ≡ l .events + 1
   unfolding added eventVerdict
@@ -196,27 +190,18 @@ refused-counted st (s ∷ ss) =
     one-more true before rs = omega arith
     one-more false before rs = omega arith
 
-pub adds-exactly : (st : State) (ss : List (List ℕ)) → length (st .ledger .cells) ≡ 21 → Adds st ss
+pub adds-exactly : (st : State) (ss : List (List ℕ)) → Shaped (st .ledger) → Adds st ss
 adds-exactly st ss n =
     record {
-      customers =
-          λ row h r c.
+      cells =
+          λ x row h r c.
           by-records
-          (λ l. cellOf l row h .customers .0)
-          (λ s. cond (countsIn row s) (njh h (eventIn s)) 0)
+          (λ l. heldIn x l row h)
+          (λ s. cond (countsIn row s) (given x h (eventIn s)) 0)
           (λ l next. refl)
-          (λ l s n b. event-customers l s n b row h c)
+          (λ l s n b. event-cell l s n b x row h c)
           st ss n ∙
-          ap (λ x. cellOf (st .ledger) row h .customers .0 + x) (sum-kept (countsIn row) (λ s. njh h (eventIn s)) es);
-      halves =
-          λ row h r c.
-          by-records
-          (λ l. cellOf l row h .halves .0)
-          (λ s. cond (countsIn row s) (njhtjh2 h (eventIn s)) 0)
-          (λ l next. refl)
-          (λ l s n b. event-halves l s n b row h c)
-          st ss n ∙
-          ap (λ x. cellOf (st .ledger) row h .halves .0 + x) (sum-kept (countsIn row) (λ s. njhtjh2 h (eventIn s)) es);
+          ap (λ y. heldIn x (st .ledger) row h + y) (sum-kept (countsIn row) (λ s. given x h (eventIn s)) es);
       events =
           by-records (λ l. l .events) (λ s. 1) (λ l next. refl) (λ l s n b. event-counted l s) st ss n ∙
           ap (λ x. st .ledger .events + x) (sum-of-ones es);
@@ -230,7 +215,7 @@ adds-exactly st ss n =
     es = acceptedEvents st ss
 
 -- of a book's bytes
-pub book-adds-exactly : (l : Ledger) (m book : List ℕ) → length (l .cells) ≡ 21 → Adds (starting l m) (recordsOf book)
+pub book-adds-exactly : (l : Ledger) (m book : List ℕ) → Shaped l → Adds (starting l m) (recordsOf book)
 book-adds-exactly l m book n = adds-exactly (starting l m) (recordsOf book) n
 
 -- where no record is refused, the accepted events are all the records that are no sheets
@@ -258,26 +243,25 @@ all-accepted st (s ∷ ss) z = go (eqb (answerOf (st .ledger) (st .map) s) 0) z 
     go true z h = ap (λ es. cond (not (eqb (kindOf s) 1)) (s ∷ es) es) (h z)
     go false z h = absurd (omega (arith, z))
 
-empty-cell : (row h : ℕ) → row < 7 → h < 3 → cellOf emptyLedger row h ≡ noCell
-empty-cell row h r c = getD-replicate 21 (row * 3 + h) noCell noCell (omega arith)
+empty-held : (x : Figure) (row h : ℕ) → row < rows → h < levels → heldIn x emptyLedger row h ≡ 0
+empty-held x row h r c =
+    ap (held x) (ap (λ (t : TypeRow). getD (t .levels) h noCell) (getD-replicate rows row emptyRow noRow r) ∙ getD-replicate levels h noCell noCell c) ∙ none x
+  where
+    none : (x : Figure) → held x noCell ≡ 0
+    none Off = refl
+    none Halves = refl
 
 -- of an accepted book: each cell is the annex's sum over all its events
 pub accepted-book-adds : (book : List ℕ) → Accepted book → IsSum book
 accepted-book-adds book accepted =
     record {
       all = all;
-      customers =
-          λ row h r c.
-          adds .customers row h r c ∙
-          ap (λ (cell : Cell). cell .customers .0 + sumOfCustomers row h es) (empty-cell row h r c) ∙
-          zero-add (sumOfCustomers row h es) ∙
-          ap (sumOfCustomers row h) all;
-      halves =
-          λ row h r c.
-          adds .halves row h r c ∙
-          ap (λ (cell : Cell). cell .halves .0 + sumOfHalves row h es) (empty-cell row h r c) ∙
-          zero-add (sumOfHalves row h es) ∙
-          ap (sumOfHalves row h) all;
+      cells =
+          λ x row h r c.
+          adds .cells x row h r c ∙
+          ap (λ y. y + sumOf x row h es) (empty-held x row h r c) ∙
+          zero-add (sumOf x row h es) ∙
+          ap (sumOf x row h) all;
       events = adds .events ∙ zero-add (length es) ∙ ap length all;
       short = adds .short ∙ zero-add (length (shortOnes es)) ∙ ap (λ es. length (shortOnes es)) all;
     }
@@ -286,7 +270,7 @@ accepted-book-adds book accepted =
     es = acceptedEvents (starting emptyLedger zeroMap) (recordsOf book)
 
     adds : Adds (starting emptyLedger zeroMap) (recordsOf book)
-    adds = book-adds-exactly emptyLedger zeroMap book refl
+    adds = book-adds-exactly emptyLedger zeroMap book empty-shaped
 
     all : es ≡ eventsOf book
     all =

@@ -1,2 +1,1 @@
-pub mod SumLaws
 pub mod AnnexTheorem

@@ -10,12 +10,14 @@ use Rattle.base.specs.Lists.{sum, keep}
 use Rattle.wire.specs.Frame.{kindOf}
 use Rattle.wire.specs.Cut.{recordsOf}
 use Rattle.codes.specs.Codes.{rowOf}
-use Rattle.annex.specs.Annex.{Event, simple, stepped, njh, njhtjh2, shortEvent}
+use Rattle.annex.specs.Annex.{Event, simple, stepped, shortEvent}
+use Rattle.annex.specs.Figure.{Figure, given}
 use Rattle.marks.specs.Marks.{mapSize}
 use Rattle.fields.specs.Fields.{headIn, simpleIn, stepsIn}
 use Rattle.ledger.specs.Ledger.{emptyLedger}
 use Rattle.ledger.specs.Take.{answerOf}
-use Rattle.book.specs.Book.{State, takeRecord, afterBook, isBroken}
+use Rattle.records.specs.Records.{isBroken}
+use Rattle.book.specs.Book.{State, takeRecord, afterBook}
 
 abbrev pub zeroMap : List ℕ
 zeroMap = replicate mapSize 0
@@ -47,10 +49,6 @@ countedIn row events = keep (λ (s : List ℕ). eqb (rowIn s) row && not (shortE
 abbrev pub shortOnes : List (List ℕ) → List (List ℕ)
 shortOnes events = keep (λ (s : List ℕ). shortEvent (eventIn s)) events
 
--- Σ n_jh, over the counted events j of a row
-abbrev pub sumOfCustomers : ℕ → ℕ → List (List ℕ) → ℕ
-sumOfCustomers row h events = sum (map (λ (s : List ℕ). njh h (eventIn s)) (countedIn row events))
-
--- 2 · Σ n_jh · t_jh, over the counted events j of a row
-abbrev pub sumOfHalves : ℕ → ℕ → List (List ℕ) → ℕ
-sumOfHalves row h events = sum (map (λ (s : List ℕ). njhtjh2 h (eventIn s)) (countedIn row events))
+-- of a figure the sum over the counted events j of a row: Σ n_jh, and 2 · Σ n_jh · t_jh
+abbrev pub sumOf : Figure → ℕ → ℕ → List (List ℕ) → ℕ
+sumOf x row h events = sum (map (λ (s : List ℕ). given x h (eventIn s)) (countedIn row events))

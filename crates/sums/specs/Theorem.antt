@@ -10,10 +10,12 @@ use Rattle.base.specs.Lists.{keep}
 use Rattle.wire.specs.Frame.{kindOf}
 use Rattle.wire.specs.Cut.{recordsOf}
 use Rattle.ledger.specs.declared.Ledger.{Ledger}
-use Rattle.ledger.specs.Ledger.{emptyLedger, cellOf}
+use Rattle.codes.specs.Codes.{rows, levels}
+use Rattle.annex.specs.Figure.{Figure}
+use Rattle.ledger.specs.Ledger.{emptyLedger, heldIn}
 use Rattle.ledger.specs.Take.{answerOf}
 use Rattle.book.specs.Book.{State, starting, takeRecord, takeAll, afterBook}
-use Rattle.sums.specs.Accepted.{zeroMap, acceptedEvents, shortOnes, sumOfCustomers, sumOfHalves}
+use Rattle.sums.specs.Accepted.{zeroMap, acceptedEvents, shortOnes, sumOf}
 
 -- the records that are refused, among those taken from a state on
 abbrev pub refusedOnes : State → List (List ℕ) → List (List ℕ)
@@ -23,16 +25,11 @@ refusedOnes st (s ∷ ss) =
 
 -- each cell grows by the annex's sum over the accepted events of its row that are not short, and by nothing else
 pub record Adds (st : State) (ss : List (List ℕ)) : Type 0 where
-  pub customers :
-      (row h : ℕ) →
-      row < 7 →
-      h < 3 →
-      cellOf (takeAll st ss .ledger) row h .customers .0 ≡ cellOf (st .ledger) row h .customers .0 + sumOfCustomers row h (acceptedEvents st ss)
-  pub halves :
-      (row h : ℕ) →
-      row < 7 →
-      h < 3 →
-      cellOf (takeAll st ss .ledger) row h .halves .0 ≡ cellOf (st .ledger) row h .halves .0 + sumOfHalves row h (acceptedEvents st ss)
+  pub cells :
+      (x : Figure) (row h : ℕ) →
+      row < rows →
+      h < levels →
+      heldIn x (takeAll st ss .ledger) row h ≡ heldIn x (st .ledger) row h + sumOf x row h (acceptedEvents st ss)
   pub events : takeAll st ss .ledger .events ≡ st .ledger .events + length (acceptedEvents st ss)
   pub short : takeAll st ss .ledger .short ≡ st .ledger .short + length (shortOnes (acceptedEvents st ss))
   pub refused : takeAll st ss .refused ≡ st .refused + length (refusedOnes st ss)
@@ -47,7 +44,6 @@ bookLedger book = afterBook emptyLedger zeroMap book .ledger
 -- of an accepted book, taken from an empty ledger and an all-zero map: all its events count, and each cell is the annex's sum over them
 pub record IsSum (book : List ℕ) : Type 0 where
   pub all : acceptedEvents (starting emptyLedger zeroMap) (recordsOf book) ≡ eventsOf book
-  pub customers : (row h : ℕ) → row < 7 → h < 3 → cellOf (bookLedger book) row h .customers .0 ≡ sumOfCustomers row h (eventsOf book)
-  pub halves : (row h : ℕ) → row < 7 → h < 3 → cellOf (bookLedger book) row h .halves .0 ≡ sumOfHalves row h (eventsOf book)
+  pub cells : (x : Figure) (row h : ℕ) → row < rows → h < levels → heldIn x (bookLedger book) row h ≡ sumOf x row h (eventsOf book)
   pub events : bookLedger book .events ≡ length (eventsOf book)
   pub short : bookLedger book .short ≡ length (shortOnes (eventsOf book))

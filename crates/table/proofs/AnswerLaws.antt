@@ -6,7 +6,7 @@ use mathlib.Core.Logic.{_⊎_}
 use mathlib.Core.List.{List}
 use mathlib.Core.Bool.{true, false, cond, not}
 use Rattle.base.specs.First.{first, Clear, Rising}
-use Rattle.base.proofs.FirstLaws.{clear, unclear}
+use Rattle.base.proofs.FirstLaws.{clear, clear-at, unclear}
 use Rattle.wire.specs.Frame.{framed, kindOf}
 use Rattle.table.specs.declared.Table.{Table}
 use Rattle.table.specs.Table.{begun, periodWithin, beginOf, soundTable, marked, fileBegun}
@@ -29,7 +29,7 @@ module _ (t : Table) (s : List ℕ) where
   clear-accepted c = unclear (rules t s) c
 
   pub accepted-kind : answerOf t s ≡ 0 → (kindOf s ≡ 1) ⊎ ((kindOf s ≡ 4) ⊎ (kindOf s ≡ 5))
-  accepted-kind a = kind-taken (kindOf s) (accepted-clear a .1 .1 .0)
+  accepted-kind a = kind-taken (kindOf s) (clear-at (rules t s) (accepted-clear a) 3)
 
   -- what is left of the rules, by kind
   module _ (sound : soundTable t ≡ true) (whole : framed s ≡ true) where

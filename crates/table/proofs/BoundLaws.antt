@@ -13,8 +13,8 @@ use Rattle.base.proofs.TestLaws.{Tested, holds, fails, test, and-left, and-righ
 use Rattle.base.proofs.ChainLaws.{each-holds}
 use Rattle.row.specs.declared.Row.{Row}
 use Rattle.table.specs.declared.Table.{Table}
-use Rattle.row.specs.Row.{rowWithin}
-use Rattle.row.proofs.RowLaws.{RowSound, row-exactly}
+use Rattle.row.specs.Row.{rowWithin, RowSound}
+use Rattle.row.proofs.RowLaws.{row-exactly}
 use Rattle.table.specs.Table.{rowOr, periodWithin, soundTable}
 
 -- "an observation period of 1 to 50 whole years"

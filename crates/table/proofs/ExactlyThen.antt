@@ -1,6 +1,6 @@
--- The theorem *exactly then* (02, K1): for each number, a record of a yearly file is answered by it exactly when what the number stands for applies and
--- nothing that a smaller number stands for does; and no other number is answered. It holds as the numbers of the rules rise. So for the beginning of a
--- table and of a file. Assumes nothing.
+-- The theorem *exactly then* (02, K1): a record of a yearly file is answered by a number exactly when what the number stands for applies and nothing that
+-- a smaller number stands for does, and accepted exactly when nothing applies (`Foremost` computes to these facts, one by one); and no other number is
+-- answered. So for the beginning of a table and of a file. Assumes nothing.
 use Prim.Native.Nat.{ℕ, _<_, _≤_}
 use mathlib.Core.Path.{_≡_, refl, sym, ap, subst}
 use mathlib.Core.Logic.{_↔_, _⊎_}
@@ -10,9 +10,9 @@ use lib.ListN.{length}
 use lib.Dec.{ltb}
 use native.Mathlib.Omega.{arith}
 use borrow.Author.Tests.{eq-eqb, eqb-true, leb-false, lt-leb, ltb-false, le-ltb, not-false, not-true}
-use Rattle.base.specs.First.{Clear, Foremost}
+use Rattle.base.specs.First.{NoRule, Clear, Foremost}
 use Rattle.base.specs.Lists.{listed}
-use Rattle.base.proofs.FirstLaws.{exactly, then, NoneOf, none-of, first-listed}
+use Rattle.base.proofs.FirstLaws.{exactly-then, clear-at, first-listed}
 use Rattle.base.proofs.TestLaws.{Tested, holds, fails, test, or-left, or-right, or-both}
 use Rattle.wire.specs.Frame.{framed, kindOf}
 use Rattle.fields.specs.Fields.{sheetIn}
@@ -23,178 +23,43 @@ use Rattle.table.specs.declared.Filed.{Filed}
 use Rattle.table.specs.Table.{periodWithin, beginOf, soundTable, fileBegun}
 use Rattle.filing.specs.Fields.{codeIn, startIn, endIn, unitIn}
 use Rattle.table.specs.Rules.{rowNamed, unframed, kindNotTaken, lengthWrong, outOfPlace, sheetOutOfRange, notListed, timeWrong, codeFull, rulesAt, rules, answerOf}
+use Rattle.table.specs.Right.{SheetRight, OutageRight, StockRight}
 use Rattle.table.proofs.BoundLaws.{period-within, period-outside}
 use Rattle.table.proofs.AnswerLaws.{rules-rise, accepted-clear, clear-accepted, begins, begins-none, file-begins, file-refused}
 
--- pairs nested to the right, as `Foremost` computes to them (a plain `×` of several is flat)
-infixr 2 _and_
-abbrev pub _and_ : Type 0 → Type 0 → Type 0
-A and B = A × B
-
 module _ (t : Table) (s : List ℕ) where
-  just : (n : ℕ) → (answerOf t s ≡ n) ↔ Foremost n (rules t s)
+  pub exactly : (n : ℕ) → (answerOf t s ≡ n) ↔ Foremost n (rules t s)
   unfolding answerOf
-  just n = (exactly n 0 (rules t s) (rules-rise t s), then n (rules t s))
-
-  written : Clear (rules t s) ↔ NoneOf (1, not (soundTable t)) ((2, unframed s) ∷ rulesAt (kindOf s) s t)
-  written = none-of (1, not (soundTable t)) ((2, unframed s) ∷ rulesAt (kindOf s) s t)
-
-  -- that 1 does not apply, said of the table
-  soundly :
-      {rest : Type 0} (n : ℕ) →
-      (answerOf t s ≡ n) ↔ (not (soundTable t) ≡ false and rest) →
-      (answerOf t s ≡ n) ↔ (soundTable t ≡ true and rest)
-  soundly n (there, back) =
-      (λ a. let c = there a in (not-false (soundTable t) (c .0), c .1), λ c. back (ap not (c .0), c .1))
-
-  pub exactly-0 :
-      (answerOf t s ≡ 0) ↔
-      (soundTable t ≡ true and
-      unframed s ≡ false and
-      kindNotTaken (kindOf s) ≡ false and
-      lengthWrong (kindOf s) s ≡ false and
-      outOfPlace (kindOf s) s t ≡ false and
-      sheetOutOfRange (kindOf s) s ≡ false and
-      notListed (kindOf s) s ≡ false and
-      timeWrong (kindOf s) s ≡ false and
-      codeFull (kindOf s) s t ≡ false)
-  exactly-0 = soundly 0 (λ a. written .0 (accepted-clear t s a), λ c. clear-accepted t s (written .1 c))
-
-  pub exactly-1 :
-      (answerOf t s ≡ 1) ↔
-      (soundTable t ≡ false)
-  exactly-1 = (λ a. not-true (soundTable t) (just 1 .0 a), λ e. just 1 .1 (ap not e))
-
-  pub exactly-2 :
-      (answerOf t s ≡ 2) ↔
-      (soundTable t ≡ true and
-      unframed s ≡ true)
-  exactly-2 = soundly 2 (just 2)
-
-  pub exactly-3 :
-      (answerOf t s ≡ 3) ↔
-      (soundTable t ≡ true and
-      unframed s ≡ false and
-      kindNotTaken (kindOf s) ≡ true)
-  exactly-3 = soundly 3 (just 3)
-
-  pub exactly-4 :
-      (answerOf t s ≡ 4) ↔
-      (soundTable t ≡ true and
-      unframed s ≡ false and
-      kindNotTaken (kindOf s) ≡ false and
-      lengthWrong (kindOf s) s ≡ true)
-  exactly-4 = soundly 4 (just 4)
-
-  pub exactly-5 :
-      (answerOf t s ≡ 5) ↔
-      (soundTable t ≡ true and
-      unframed s ≡ false and
-      kindNotTaken (kindOf s) ≡ false and
-      lengthWrong (kindOf s) s ≡ false and
-      outOfPlace (kindOf s) s t ≡ true)
-  exactly-5 = soundly 5 (just 5)
-
-  pub exactly-6 :
-      (answerOf t s ≡ 6) ↔
-      (soundTable t ≡ true and
-      unframed s ≡ false and
-      kindNotTaken (kindOf s) ≡ false and
-      lengthWrong (kindOf s) s ≡ false and
-      outOfPlace (kindOf s) s t ≡ false and
-      sheetOutOfRange (kindOf s) s ≡ true)
-  exactly-6 = soundly 6 (just 6)
-
-  pub exactly-7 :
-      (answerOf t s ≡ 7) ↔
-      (soundTable t ≡ true and
-      unframed s ≡ false and
-      kindNotTaken (kindOf s) ≡ false and
-      lengthWrong (kindOf s) s ≡ false and
-      outOfPlace (kindOf s) s t ≡ false and
-      sheetOutOfRange (kindOf s) s ≡ false and
-      notListed (kindOf s) s ≡ true)
-  exactly-7 = soundly 7 (just 7)
-
-  pub exactly-10 :
-      (answerOf t s ≡ 10) ↔
-      (soundTable t ≡ true and
-      unframed s ≡ false and
-      kindNotTaken (kindOf s) ≡ false and
-      lengthWrong (kindOf s) s ≡ false and
-      outOfPlace (kindOf s) s t ≡ false and
-      sheetOutOfRange (kindOf s) s ≡ false and
-      notListed (kindOf s) s ≡ false and
-      timeWrong (kindOf s) s ≡ true)
-  exactly-10 = soundly 10 (just 10)
-
-  pub exactly-15 :
-      (answerOf t s ≡ 15) ↔
-      (soundTable t ≡ true and
-      unframed s ≡ false and
-      kindNotTaken (kindOf s) ≡ false and
-      lengthWrong (kindOf s) s ≡ false and
-      outOfPlace (kindOf s) s t ≡ false and
-      sheetOutOfRange (kindOf s) s ≡ false and
-      notListed (kindOf s) s ≡ false and
-      timeWrong (kindOf s) s ≡ false and
-      codeFull (kindOf s) s t ≡ true)
-  exactly-15 = soundly 15 (just 15)
+  exactly n = exactly-then n (rules t s) (rules-rise t s)
 
   pub exactly-no-other : listed (answerOf t s) (0 ∷ 1 ∷ 2 ∷ 3 ∷ 4 ∷ 5 ∷ 6 ∷ 7 ∷ 10 ∷ 15 ∷ []) ≡ true
   unfolding answerOf
   exactly-no-other = first-listed (rules t s)
 
--- which records of each kind are accepted, said at once: a year sheet
-pub record SheetRight (t : Table) (s : List ℕ) : Type 0 where
-  pub sound : soundTable t ≡ true
-  pub framed : framed s ≡ true
-  pub size : length s ≡ 18
-  pub first : t .seen ≡ false
-  pub range : inRange (sheetIn s) ≡ true
-
--- an element outage
-pub record OutageRight (t : Table) (s : List ℕ) : Type 0 where
-  pub sound : soundTable t ≡ true
-  pub framed : framed s ≡ true
-  pub size : length s ≡ 14
-  pub seen : t .seen ≡ true
-  pub listed : elementListed (codeIn s) ≡ true
-  pub ordered : startIn s ≤ endIn s
-  pub timely : endIn s ≤ 600000
-  pub room : rowNamed t s .outages < 65535
-
--- a stock
-pub record StockRight (t : Table) (s : List ℕ) : Type 0 where
-  pub sound : soundTable t ≡ true
-  pub framed : framed s ≡ true
-  pub size : length s ≡ 11
-  pub seen : t .seen ≡ true
-  pub new : rowNamed t s .stock ≡ 0
-  pub listed : elementListed (codeIn s) ≡ true
-  pub unit : unitIn s ≤ 1
-
 module _ (t : Table) (s : List ℕ) where
   accepted-at : (kind : ℕ) → kindOf s ≡ kind → soundTable t ≡ true → framed s ≡ true → Clear (rulesAt kind s t) → answerOf t s ≡ 0
   accepted-at kind k sound whole c = clear-accepted t s (ap not sound, (ap not whole, subst (λ j. Clear (rulesAt j s t)) (sym k) c))
 
-  clear-at : (kind : ℕ) → kindOf s ≡ kind → answerOf t s ≡ 0 → (soundTable t ≡ true) × (framed s ≡ true) × Clear (rulesAt kind s t)
-  clear-at kind k a =
-      let c = accepted-clear t s a in
-      (not-false (soundTable t) (c .0), not-false (framed s) (c .1 .0), subst (λ j. Clear (rulesAt j s t)) k (c .1 .1))
+  rules-at : (kind : ℕ) → kindOf s ≡ kind → answerOf t s ≡ 0 → (soundTable t ≡ true) × (framed s ≡ true) × NoRule (rulesAt kind s t)
+  rules-at kind k a =
+      let c = accepted-clear t s a in (
+        not-false (soundTable t) (c .0),
+        not-false (framed s) (c .1 .0),
+        subst (λ j. NoRule (rulesAt j s t)) k (clear-at (rulesAt (kindOf s) s t) (c .1 .1)),
+      )
 
   pub exactly-sheet : kindOf s ≡ 1 → (answerOf t s ≡ 0) ↔ SheetRight t s
   exactly-sheet k = (there, back)
     where
       there : answerOf t s ≡ 0 → SheetRight t s
       there a =
-          let (sound, whole, c) = clear-at 1 k a in
+          let (sound, whole, c) = rules-at 1 k a in
           record {
             sound = sound;
             framed = whole;
-            size = eqb-true _ _ (not-false _ (c .1 .0));
-            first = c .1 .1 .0;
-            range = not-false _ (c .1 .1 .1 .0);
+            size = eqb-true _ _ (not-false _ (c 4));
+            first = c 5;
+            range = not-false _ (c 6);
           }
 
       back : SheetRight t s → answerOf t s ≡ 0
@@ -210,17 +75,17 @@ module _ (t : Table) (s : List ℕ) where
 
       there : answerOf t s ≡ 0 → OutageRight t s
       there a =
-          let (sound, whole, c) = clear-at 4 k a in
-          let times = c .1 .1 .1 .1 .1 .0 in
+          let (sound, whole, c) = rules-at 4 k a in
+          let times = c 10 in
           record {
             sound = sound;
             framed = whole;
-            size = eqb-true (length s) 14 (not-false _ (c .1 .0));
-            seen = not-false (t .seen) (c .1 .1 .0);
-            listed = not-false (elementListed (codeIn s)) (c .1 .1 .1 .1 .0);
+            size = eqb-true (length s) 14 (not-false _ (c 4));
+            seen = not-false (t .seen) (c 5);
+            listed = not-false (elementListed (codeIn s)) (c 7);
             ordered = ltb-false (endIn s) (startIn s) (or-left _ _ (or-left late _ times));
             timely = ltb-false 600000 (endIn s) (or-right late _ times);
-            room = leb-false 65535 (rowNamed t s .outages) (c .1 .1 .1 .1 .1 .1 .0);
+            room = leb-false 65535 (rowNamed t s .outages) (c 15);
           }
 
       back : OutageRight t s → answerOf t s ≡ 0
@@ -240,14 +105,14 @@ module _ (t : Table) (s : List ℕ) where
     where
       there : answerOf t s ≡ 0 → StockRight t s
       there a =
-          let (sound, whole, c) = clear-at 5 k a in
-          let placed = c .1 .1 .0 in
+          let (sound, whole, c) = rules-at 5 k a in
+          let placed = c 5 in
           let none = ltb-false 0 (rowNamed t s .stock) (or-right (not (t .seen)) _ placed) in
-          let named = c .1 .1 .1 .1 .0 in
+          let named = c 7 in
           record {
             sound = sound;
             framed = whole;
-            size = eqb-true (length s) 11 (not-false _ (c .1 .0));
+            size = eqb-true (length s) 11 (not-false _ (c 4));
             seen = not-false (t .seen) (or-left (not (t .seen)) _ placed);
             new = omega arith;
             listed = not-false (elementListed (codeIn s)) (or-left (not (elementListed (codeIn s))) _ named);

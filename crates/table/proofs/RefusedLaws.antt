@@ -4,7 +4,7 @@ use Prim.Native.Nat.{ℕ, _+_, _-_, _<_}
 use mathlib.Core.Path.{_≡_, refl, sym, ap, _∙_, subst}
 use mathlib.Core.Logic.{_≢_, _⊎_, inl, inr}
 use mathlib.Core.List.{List}
-use mathlib.Core.Bool.{true, false, cond}
+use mathlib.Core.Bool.{true, false, cond, not}
 use lib.ListN.{length, set, length-set, length-replicate}
 use lib.Seq.{getD-set-same, getD-set-other}
 use lib.Dec.{eqb}
@@ -24,7 +24,7 @@ use Rattle.table.specs.Rules.{rowNamed, answerOf}
 use Rattle.row.specs.Row.{withOutage, withStock}
 use Rattle.table.specs.Take.{withRow, acceptedAt, tableAfter}
 use Rattle.table.proofs.AnswerLaws.{accepted-kind, begins, begins-none, file-begins, file-refused}
-use Rattle.table.proofs.ExactlyThen.{exactly-1, exactly-sheet, exactly-outage, exactly-stock}
+use Rattle.table.proofs.ExactlyThen.{exactly, exactly-sheet, exactly-outage, exactly-stock}
 
 -- another row in its place: no other row is changed
 module _ (rows : List Row) (at : ℕ) (r : Row) where
@@ -43,7 +43,7 @@ module _ (t : Table) (s : List ℕ) where
   -- a table past its bounds takes no record
   pub unsound-hands-back : soundTable t ≡ false → (answerOf t s ≡ 1) × (tableAfter t s ≡ t)
   unsound-hands-back u =
-      let a : answerOf t s ≡ 1 = exactly-1 t s .1 u in
+      let a : answerOf t s ≡ 1 = exactly t s 1 .1 (ap not u) in
       (a, refused-hands-back (λ z. omega arith))
 
   -- an accepted record, of each kind

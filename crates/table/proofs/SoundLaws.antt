@@ -14,13 +14,13 @@ use Rattle.elements.specs.Elements.{rowOf}
 use Rattle.row.specs.declared.Row.{Row}
 use Rattle.table.specs.declared.Table.{Table}
 use Rattle.table.specs.declared.Filed.{Filed}
-use Rattle.row.specs.Row.{rowWithin}
+use Rattle.row.specs.Row.{rowWithin, RowSound}
 use Rattle.table.specs.Table.{begun, periodWithin, beginOf, soundTable, marked, fileBegun}
 use Rattle.filing.specs.Fields.{codeIn, startIn, endIn, unitIn, amountIn}
 use Rattle.table.specs.Rules.{rowNamed, answerOf}
 use Rattle.row.specs.Row.{withOutage, withStock}
 use Rattle.table.specs.Take.{withRow, tableAfter}
-use Rattle.row.proofs.RowLaws.{RowSound, row-exactly}
+use Rattle.row.proofs.RowLaws.{row-exactly}
 use Rattle.table.proofs.BoundLaws.{period-within, period-outside, sound-row}
 use Rattle.table.proofs.AnswerLaws.{begins, begins-none, file-begins, file-refused}
 use Rattle.table.proofs.ExactlyThen.{exactly-outage, exactly-stock, begin-exactly-0, begin-exactly-24}

@@ -1,3 +1,4 @@
 pub mod Table
 pub mod Rules
+pub mod Right
 pub mod Take

@@ -6,10 +6,12 @@ use lib.ListN.{length}
 use lib.Dec.{leb, ltb, eqb}
 use Rattle.base.specs.First.{Rule, first}
 use Rattle.wire.specs.Frame.{framed, kindOf}
+use Rattle.codes.specs.Ranges.{latest}
 use Rattle.fields.specs.Fields.{sheetIn}
 use Rattle.fields.specs.Tests.{inRange}
 use Rattle.elements.specs.Elements.{elementListed, rowOf}
 use Rattle.row.specs.declared.Row.{Row}
+use Rattle.row.specs.Row.{mostOutages}
 use Rattle.table.specs.declared.Table.{Table}
 use Rattle.table.specs.Table.{rowOr, soundTable}
 use Rattle.filing.specs.Fields.{codeIn, startIn, endIn, unitIn}
@@ -48,11 +50,11 @@ notListed kind s = byKind kind false (not (elementListed (codeIn s))) (not (elem
 
 -- 10: "an end before its start or a time over 600,000"
 abbrev pub timeWrong : ℕ → List ℕ → Bool
-timeWrong kind s = byKind kind false (ltb (endIn s) (startIn s) || ltb 600000 (startIn s) || ltb 600000 (endIn s)) false
+timeWrong kind s = byKind kind false (ltb (endIn s) (startIn s) || ltb latest (startIn s) || ltb latest (endIn s)) false
 
 -- 15: "a code with 65,535 outages"
 abbrev pub codeFull : ℕ → List ℕ → Table → Bool
-codeFull kind s t = byKind kind false (leb 65535 (rowNamed t s .outages)) false
+codeFull kind s t = byKind kind false (leb mostOutages (rowNamed t s .outages)) false
 
 -- the rules from 3 on, of a record that is framed
 abbrev pub rulesAt : ℕ → List ℕ → Table → List Rule

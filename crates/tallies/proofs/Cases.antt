@@ -15,7 +15,8 @@ use Rattle.table.specs.Take.{tableAfter}
 use Rattle.yearly.specs.Yearly.{takeRecord}
 use Rattle.tallies.specs.Turned.{Turned, SameTable}
 use Rattle.tallies.specs.Join.{tableOf, rowIn, Joinable, Joined}
-use Rattle.tallies.specs.Needed.{year1, year2, turned1, turned2, asFed, asTurned, fed-turned, fed-records, fed-accepted, first-alone, second-alone}
+use Rattle.tallies.specs.Needed.{year1, year2, turned1, turned2, asFed, asTurned}
+use Rattle.tallies.proofs.Needed.{fed-turned, fed-records, fed-accepted, first-alone, second-alone}
 use Rattle.tallies.proofs.FileLaws.{Held}
 use Rattle.tallies.proofs.Turning.{turned}
 use Rattle.tallies.proofs.Joining as joining

@@ -12,6 +12,7 @@ use native.Mathlib.Nat.{add-zero}
 use Rattle.base.specs.Lists.{All}
 use Rattle.wire.specs.Frame.{framed, kindOf}
 use Rattle.wire.specs.Cut.{recordsOf}
+use Rattle.records.proofs.TakeLaws.{first-accepted}
 use Rattle.fields.specs.Fields.{sheetIn}
 use Rattle.fields.specs.Tests.{inRange}
 use Rattle.table.specs.declared.Table.{Table}
@@ -21,10 +22,12 @@ use Rattle.table.proofs.AnswerLaws.{accepted-kind}
 use Rattle.table.proofs.ExactlyThen.{exactly-sheet, exactly-outage, exactly-stock}
 use Rattle.table.proofs.RefusedLaws.{accepted-sheet}
 use Rattle.table.proofs.SoundLaws.{marked-sound}
-use Rattle.yearly.specs.Yearly.{State, starting, takeRecord, takeAll, oneIfRefused, isBroken, afterFile, afterFiles, AcceptedFile, AcceptedFiles}
+use Rattle.records.specs.Records.{oneIfRefused, isBroken}
+use Rattle.yearly.specs.Yearly.{State, starting, takeRecord, takeAll, afterFile, afterFiles, AcceptedFile, AcceptedFiles}
+use Rattle.yearly.proofs.RunLaws.{refusedIn, answerIn, refused-counted}
 use Rattle.tallies.specs.Tally.{Each, Tells}
 use Rattle.tallies.proofs.SumLaws.{same-row}
-use Rattle.tallies.proofs.TallyLaws.{Ready, Taken, first-accepted, none-each, records-accepted, records-taken, each-both, each-back, each-front, rows-both}
+use Rattle.tallies.proofs.TallyLaws.{Ready, Taken, none-each, records-accepted, records-taken, each-both, each-back, each-front, rows-both}
 
 -- a sheet that is right by itself
 pub record Opens (s : List ℕ) : Type 0 where
@@ -101,7 +104,7 @@ module _ (t : Table) (held : Held t) where
 
   taken-opened : (rs : List (List ℕ)) → (rs ≡ [] → ⊥) → takeAll (starting (marked false t)) rs .refused ≡ 0 → Opened rs
   taken-opened [] some e = some refl
-  taken-opened (s ∷ ss) some e = first-opens t held s (first-accepted (starting (marked false t)) s ss e)
+  taken-opened (s ∷ ss) some e = first-opens t held s (first-accepted takeRecord refusedIn answerIn refused-counted (starting (marked false t)) s ss e)
 
 -- a file that does not break off and begins with a sheet
 pub record Begins (file : List ℕ) : Type 0 where

@@ -10,6 +10,7 @@ use lib.Dec.{ltb}
 use native.Mathlib.Omega.{arith}
 use Rattle.base.specs.Lists.{All}
 use Rattle.base.proofs.ListLaws.{all-append}
+use Rattle.base.proofs.SumLaws.{sum-append}
 use Rattle.wire.specs.Cut.{recordsOf}
 use Rattle.row.specs.declared.Row.{Row}
 use Rattle.table.specs.declared.Table.{Table}
@@ -20,7 +21,7 @@ use Rattle.table.proofs.SoundLaws.{begun-sound}
 use Rattle.yearly.specs.Yearly.{AcceptedFiles}
 use Rattle.tallies.specs.Tally.{outagesOf, minutesOf, stocksOf, stockOf, amountOf, total, tallied, Fitting, Each, Tells}
 use Rattle.tallies.specs.Join.{plusRow, tableOf, rowIn, Joinable, Joined}
-use Rattle.tallies.proofs.SumLaws.{same-row, total-append, when, told}
+use Rattle.tallies.proofs.SumLaws.{same-row, when, told}
 use Rattle.tallies.proofs.TallyLaws.{told-then, outages-then}
 use Rattle.tallies.proofs.FileLaws.{Held, Begins, others, behindAll, markAfter, files-accepted, files-tell}
 
@@ -83,10 +84,10 @@ module _ (period : ℕ) (fs gs : List (List ℕ)) (within : periodWithin period 
     once : (rowIn (tableOf period fs) row .stock ≡ 0) ⊎ (rowIn (tableOf period gs) row .stock ≡ 0) → told (rowIn start row) + total (stocksOf row) (ss ++ ts) ≤ 1
     once (inl e) =
         let none : told (rowIn (tableOf period fs) row) ≡ 0 = ap (λ n. when (ltb 0 n)) e in
-        omega (arith, none, first-told, of-second .1 .once row l, total-append (stocksOf row) ss ts)
+        omega (arith, none, first-told, of-second .1 .once row l, sum-append (stocksOf row) ss ts)
     once (inr e) =
         let none : told (rowIn (tableOf period gs) row) ≡ 0 = ap (λ n. when (ltb 0 n)) e in
-        omega (arith, none, second-told, of-first .1 .once row l, total-append (stocksOf row) ss ts)
+        omega (arith, none, second-told, of-first .1 .once row l, sum-append (stocksOf row) ss ts)
 
     room : rowIn start row .outages + total (outagesOf row) (ss ++ ts) ≤ 65535
     room =
@@ -96,17 +97,17 @@ module _ (period : ℕ) (fs gs : List (List ℕ)) (within : periodWithin period 
           both .room row l,
           outages-then (marked (markAfter (start .seen) fs) start) (tableOf period fs) ss ts first-tells row l,
           outages-then (marked (markAfter (start .seen) gs) start) (tableOf period gs) ts ss second-tells row l,
-          total-append (outagesOf row) ss ts,
+          sum-append (outagesOf row) ss ts,
         )
 
     -- a row of nothing with all that both tell is the sum of the two
     summed : tallied (rowIn start row) row (ss ++ ts) ≡ plusRow (tallied (rowIn start row) row ss) (tallied (rowIn start row) row ts)
     summed =
         same-row _ _
-        (omega (arith, none-out, total-append (outagesOf row) ss ts))
-        (omega (arith, ap (λ (r : Row). r .minutes) nothing, total-append (minutesOf row) ss ts))
-        (omega (arith, ap (λ (r : Row). r .stock) nothing, total-append (stockOf row) ss ts))
-        (omega (arith, ap (λ (r : Row). r .amount) nothing, total-append (amountOf row) ss ts))
+        (omega (arith, none-out, sum-append (outagesOf row) ss ts))
+        (omega (arith, ap (λ (r : Row). r .minutes) nothing, sum-append (minutesOf row) ss ts))
+        (omega (arith, ap (λ (r : Row). r .stock) nothing, sum-append (stockOf row) ss ts))
+        (omega (arith, ap (λ (r : Row). r .amount) nothing, sum-append (amountOf row) ss ts))
 
   all-asked : Asked (fs ++ gs)
   all-asked = (

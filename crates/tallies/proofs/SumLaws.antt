@@ -8,7 +8,7 @@ use lib.Dec.{ltb}
 use native.Mathlib.Nat.{add-zero}
 use native.Mathlib.Omega.{arith}
 use borrow.Author.Tests.{lt-ltb}
-use Rattle.order.specs.Perm.{Perm, done, keep, swap, then}
+use Rattle.base.specs.Perm.{Perm, done, keep, swap, then}
 use Rattle.row.specs.declared.Row.{Row}
 use Rattle.filing.specs.Fields.{unitIn}
 use Rattle.tallies.specs.Tally.{isStock, stocksOf, stockOf, total}
@@ -16,18 +16,6 @@ use Rattle.tallies.specs.Tally.{isStock, stocksOf, stockOf, total}
 -- two rows with the same four numbers
 pub same-row : (a b : Row) → a .outages ≡ b .outages → a .minutes ≡ b .minutes → a .stock ≡ b .stock → a .amount ≡ b .amount → a ≡ b
 same-row a b o m s n = λ i. record { outages = o i; minutes = m i; stock = s i; amount = n i }
-
--- one after the other
-pub total-append : (f : List ℕ → ℕ) (ss ts : List (List ℕ)) → total f (ss ++ ts) ≡ total f ss + total f ts
-total-append f [] ts = omega arith
-total-append f (s ∷ ss) ts = omega (arith, total-append f ss ts)
-
--- in any order
-pub total-perm : (f : List ℕ → ℕ) {ss ts : List (List ℕ)} → Perm ss ts → total f ss ≡ total f ts
-total-perm f done = refl
-total-perm f (keep {a = s} p) = ap (λ n. f s + n) (total-perm f p)
-total-perm f (swap {a = s} {b = t} {xs = ss}) = omega arith
-total-perm f (then p q) = total-perm f p ∙ total-perm f q
 
 -- whether a row's stock is told, as a number
 abbrev pub when : Bool → ℕ

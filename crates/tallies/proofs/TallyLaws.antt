@@ -14,7 +14,10 @@ use borrow.Author.Tests.{eqb-true, eqb-false, eq-eqb, lt-leb, not-false}
 use Rattle.base.specs.First.{Clear}
 use Rattle.base.proofs.ListLaws.{all-append, all-front, all-back}
 use Rattle.base.proofs.TestLaws.{Tested, holds, fails, test, and-both, or-left, or-both}
+use Rattle.base.proofs.SumLaws.{sum-append}
+use Rattle.base.proofs.FirstLaws.{clear-at}
 use Rattle.wire.specs.Frame.{kindOf}
+use Rattle.records.proofs.TakeLaws.{first-accepted}
 use Rattle.elements.specs.Elements.{elementListed, rowOf}
 use Rattle.elements.proofs.CodeLaws.{listed-row}
 use Rattle.row.specs.declared.Row.{Row}
@@ -29,9 +32,11 @@ use Rattle.table.proofs.AnswerLaws.{accepted-clear, clear-accepted, accepted-ki
 use Rattle.table.proofs.ExactlyThen.{exactly-sheet, exactly-outage, exactly-stock}
 use Rattle.table.proofs.RefusedLaws.{period-kept, rows-kept, other-rows, mark-kept, outage-row, stock-row}
 use Rattle.table.proofs.SoundLaws.{sound-stays-sound}
-use Rattle.yearly.specs.Yearly.{State, starting, takeRecord, takeAll, oneIfRefused}
+use Rattle.records.specs.Records.{oneIfRefused}
+use Rattle.yearly.specs.Yearly.{State, starting, takeRecord, takeAll}
+use Rattle.yearly.proofs.RunLaws.{refusedIn, answerIn, refused-counted}
 use Rattle.tallies.specs.Tally.{isOutage, isStock, outagesOf, minutesOf, stocksOf, stockOf, amountOf, total, tallied, Fitting, Each, Tells}
-use Rattle.tallies.proofs.SumLaws.{same-row, total-append, when, when-few, told, mark-grows, marks-grow}
+use Rattle.tallies.proofs.SumLaws.{same-row, when, when-few, told, mark-grows, marks-grow}
 
 -- a record of kind 4 or 5 tells an outage or the stock of the element of a row, or speaks of another element
 data Speaks (row : ℕ) (s : List ℕ) : Type 0 where
@@ -63,7 +68,7 @@ fitting-row : (s : List ℕ) → Fitting s → rowOf (codeIn s) < 62
 fitting-row s fit = listed-row (codeIn s) (fitting-listed s fit)
 
 -- a row with what one record tells
-abbrev one : Row → ℕ → List ℕ → Row
+abbrev pub one : Row → ℕ → List ℕ → Row
 one r row s =
     record {
       outages = r .outages + outagesOf row s;
@@ -72,7 +77,7 @@ one r row s =
       amount = r .amount + amountOf row s;
     }
 
-one-more : (r : Row) (row : ℕ) (s : List ℕ) (ss : List (List ℕ)) → tallied (one r row s) row ss ≡ tallied r row (s ∷ ss)
+pub one-more : (r : Row) (row : ℕ) (s : List ℕ) (ss : List (List ℕ)) → tallied (one r row s) row ss ≡ tallied r row (s ∷ ss)
 one-more r row s ss = same-row _ _ (omega arith) (omega arith) (omega arith) (omega arith)
 
 -- room for one record
@@ -88,16 +93,10 @@ pub record Ready (t : Table) : Type 0 where
 
 -- one record: accepted where it fits and there is room for it
 module _ (t : Table) (s : List ℕ) (ready : Ready t) where
-  accepted-fitting : answerOf t s ≡ 0 → Fitting s
+  pub accepted-fitting : answerOf t s ≡ 0 → Fitting s
   accepted-fitting a =
-      let c : Clear (rules t s) = accepted-clear t s a in
-      record {
-        framed = c .1 .0;
-        kind = go (accepted-kind t s a);
-        size = c .1 .1 .1 .0;
-        listed = c .1 .1 .1 .1 .1 .1 .0;
-        timely = c .1 .1 .1 .1 .1 .1 .1 .0;
-      }
+      let c = clear-at (rules t s) (accepted-clear t s a) in
+      record { framed = c 2; kind = go (accepted-kind t s a); size = c 4; listed = c 7; timely = c 10 }
     where
       go : (kindOf s ≡ 1) ⊎ ((kindOf s ≡ 4) ⊎ (kindOf s ≡ 5)) → (kindOf s ≡ 4) ⊎ (kindOf s ≡ 5)
       go (inl k) = absurd (true≢false (sym (ready .seen) ∙ exactly-sheet t s k .0 a .first))
@@ -198,7 +197,7 @@ module _ (t : Table) (s : List ℕ) (ready : Ready t) where
         other-rows t s row (λ same. e (sym same)) ∙
         rw (o, n) (same-row (rowOr (t .rows) row) _ (sym (add-zero _)) (sym (add-zero _)) (sym (add-zero _)) (sym (add-zero _)))
 
-    grown : (row : ℕ) → rowOr (tableAfter t s .rows) row ≡ one (rowOr (t .rows) row) row s
+    pub grown : (row : ℕ) → rowOr (tableAfter t s .rows) row ≡ one (rowOr (t .rows) row) row s
     grown row = grown-at row (speaks row s (fit .kind))
 
     after-seen : tableAfter t s .seen ≡ t .seen
@@ -253,22 +252,6 @@ module _ (t u : Table) (s : List ℕ) (ss : List (List ℕ)) (grow : (row : ℕ)
         room = λ row l. omega (arith, each .room row l, outages-after row);
       }
 
--- the records refused never become fewer, so where none is refused the first is not
-pub refused-grows : (st : State) (ss : List (List ℕ)) → st .refused ≤ takeAll st ss .refused
-unfolding takeRecord
-refused-grows st [] = omega arith
-refused-grows st (s ∷ ss) = omega (arith, refused-grows (takeRecord st s) ss)
-
-pub first-accepted : (st : State) (s : List ℕ) (ss : List (List ℕ)) → takeAll st (s ∷ ss) .refused ≡ st .refused → answerOf (st .table) s ≡ 0
-unfolding takeRecord
-first-accepted st s ss e = go (test (eqb (answerOf (st .table) s) 0))
-  where
-    go : Tested (eqb (answerOf (st .table) s) 0) → answerOf (st .table) s ≡ 0
-    go (holds a) = eqb-true _ _ a
-    go (fails a) =
-        let more : takeRecord st s .refused ≡ st .refused + 1 = ap (λ b. st .refused + cond b 0 1) a in
-        absurd (omega (arith, e, more, refused-grows (takeRecord st s) ss))
-
 -- no records: a sound table has nothing over its bounds
 pub none-each : (t : Table) → soundTable t ≡ true → Each t []
 none-each t sound =
@@ -282,7 +265,7 @@ none-each t sound =
 accepted-each : (t : Table) (r : ℕ) (ss : List (List ℕ)) → Ready t → takeAll (record { table = t; refused = r }) ss .refused ≡ r → Each t ss
 accepted-each t r [] ready e = none-each t (ready .sound)
 accepted-each t r (s ∷ ss) ready e =
-    let a : answerOf t s ≡ 0 = first-accepted (record { table = t; refused = r }) s ss e in
+    let a : answerOf t s ≡ 0 = first-accepted takeRecord refusedIn answerIn refused-counted (record { table = t; refused = r }) s ss e in
     let fit = accepted-fitting t s ready a in
     each-more t (tableAfter t s) s ss (grown t s ready fit a) fit (accepted-room t s ready a)
     (accepted-each (tableAfter t s) r ss (ready-after t s ready fit a)
@@ -348,16 +331,16 @@ module _ (t u : Table) (ss ts : List (List ℕ)) (tells : Tells t ss u) where
   each-both first rest =
       record {
         fitting = all-append Fitting ss ts (first .fitting) (rest .fitting);
-        once = λ row l. omega (arith, rest .once row l, told-then row l (first .once row l), total-append (stocksOf row) ss ts);
-        room = λ row l. omega (arith, rest .room row l, outages-then row l, total-append (outagesOf row) ss ts);
+        once = λ row l. omega (arith, rest .once row l, told-then row l (first .once row l), sum-append (stocksOf row) ss ts);
+        room = λ row l. omega (arith, rest .room row l, outages-then row l, sum-append (outagesOf row) ss ts);
       }
 
   pub each-back : Each t ss → Each t (ss ++ ts) → Each u ts
   each-back first both =
       record {
         fitting = all-back Fitting ss ts (both .fitting);
-        once = λ row l. omega (arith, both .once row l, told-then row l (first .once row l), total-append (stocksOf row) ss ts);
-        room = λ row l. omega (arith, both .room row l, outages-then row l, total-append (outagesOf row) ss ts);
+        once = λ row l. omega (arith, both .once row l, told-then row l (first .once row l), sum-append (stocksOf row) ss ts);
+        room = λ row l. omega (arith, both .room row l, outages-then row l, sum-append (outagesOf row) ss ts);
       }
 
   pub rows-both :
@@ -369,15 +352,15 @@ module _ (t u : Table) (ss ts : List (List ℕ)) (tells : Tells t ss u) where
   rows-both v more row l =
       more row l ∙ ap (λ (r : Row). tallied r row ts) (tells .rows row l) ∙
       same-row _ _
-      (omega (arith, total-append (outagesOf row) ss ts))
-      (omega (arith, total-append (minutesOf row) ss ts))
-      (omega (arith, total-append (stockOf row) ss ts))
-      (omega (arith, total-append (amountOf row) ss ts))
+      (omega (arith, sum-append (outagesOf row) ss ts))
+      (omega (arith, sum-append (minutesOf row) ss ts))
+      (omega (arith, sum-append (stockOf row) ss ts))
+      (omega (arith, sum-append (amountOf row) ss ts))
 
 pub each-front : (t : Table) (ss ts : List (List ℕ)) → Each t (ss ++ ts) → Each t ss
 each-front t ss ts both =
     record {
       fitting = all-front Fitting ss ts (both .fitting);
-      once = λ row l. omega (arith, both .once row l, total-append (stocksOf row) ss ts);
-      room = λ row l. omega (arith, both .room row l, total-append (outagesOf row) ss ts);
+      once = λ row l. omega (arith, both .once row l, sum-append (stocksOf row) ss ts);
+      room = λ row l. omega (arith, both .room row l, sum-append (outagesOf row) ss ts);
     }

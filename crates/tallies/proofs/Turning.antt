@@ -12,11 +12,12 @@ use native.Mathlib.Omega.{arith}
 use borrow.Author.Tests.{not-false}
 use Rattle.base.specs.Lists.{All}
 use Rattle.base.proofs.ListLaws.{all-append, all-front, all-back}
+use Rattle.base.proofs.SumLaws.{sum-append, sum-perm}
 use Rattle.wire.specs.Book.{whichOf}
 use Rattle.wire.specs.Cut.{recordsOf, joined}
 use Rattle.wire.specs.declared.Place.{Place}
 use Rattle.wire.proofs.CutLaws.{Framed, cut-joined, joined-ends}
-use Rattle.order.proofs.PermLaws.{perm-all}
+use Rattle.base.proofs.PermLaws.{perm-all}
 use Rattle.row.specs.declared.Row.{Row}
 use Rattle.table.specs.declared.Table.{Table}
 use Rattle.row.specs.Row.{noRow}
@@ -24,7 +25,6 @@ use Rattle.table.specs.Table.{rowOr, soundTable}
 use Rattle.yearly.specs.Yearly.{afterFiles, AcceptedFiles}
 use Rattle.tallies.specs.Tally.{outagesOf, minutesOf, stocksOf, stockOf, amountOf, total, tallied, Fitting, Each, Tells}
 use Rattle.tallies.specs.Turned.{after, Turned, none, both, swap, then, filesOf, SameTable}
-use Rattle.tallies.proofs.SumLaws.{total-append, total-perm}
 use Rattle.tallies.proofs.FileLaws.{Opened, others, allOthers, Held, Begins, behindAll, markAfter, files-accepted, files-tell, files-held}
 
 -- what turned files keep: sums over the records after the sheets, what holds of each of those, the sheets, and how many files they are
@@ -33,18 +33,18 @@ turned-total f none = refl
 turned-total f (both {fs = fs} {gs = gs} (after {ss = ss} {ts = ts} p) q) =
     omega (
       arith,
-      total-append f ss (allOthers fs),
-      total-append f ts (allOthers gs),
-      total-perm f p,
+      sum-append f ss (allOthers fs),
+      sum-append f ts (allOthers gs),
+      sum-perm f p,
       turned-total f q,
     )
 turned-total f (swap {f = a} {g = b} {fs = fs}) =
     omega (
       arith,
-      total-append f (others a) (others b ++ allOthers fs),
-      total-append f (others b) (allOthers fs),
-      total-append f (others b) (others a ++ allOthers fs),
-      total-append f (others a) (allOthers fs),
+      sum-append f (others a) (others b ++ allOthers fs),
+      sum-append f (others b) (allOthers fs),
+      sum-append f (others b) (others a ++ allOthers fs),
+      sum-append f (others a) (allOthers fs),
     )
 turned-total f (then p q) = turned-total f p ∙ turned-total f q
 

@@ -4,6 +4,7 @@ use mathlib.Core.Path.{_≡_}
 use mathlib.Core.Logic.{_⊎_}
 use mathlib.Core.List.{List, _++_}
 use Rattle.row.specs.declared.Row.{Row}
+use Rattle.row.specs.Row.{mostOutages}
 use Rattle.table.specs.declared.Table.{Table}
 use Rattle.table.specs.Table.{rowOr, begun}
 use Rattle.yearly.specs.Yearly.{afterFiles, AcceptedFiles}
@@ -24,7 +25,7 @@ pub record Joinable (period : ℕ) (fs gs : List (List ℕ)) : Type 0 where
   pub first : AcceptedFiles (begun period) fs
   pub second : AcceptedFiles (begun period) gs
   pub apart : (row : ℕ) → row < 62 → (rowIn (tableOf period fs) row .stock ≡ 0) ⊎ (rowIn (tableOf period gs) row .stock ≡ 0)
-  pub room : (row : ℕ) → row < 62 → rowIn (tableOf period fs) row .outages + rowIn (tableOf period gs) row .outages ≤ 65535
+  pub room : (row : ℕ) → row < 62 → rowIn (tableOf period fs) row .outages + rowIn (tableOf period gs) row .outages ≤ mostOutages
 
 pub record Joined (period : ℕ) (fs gs : List (List ℕ)) : Type 0 where
   pub accepted : AcceptedFiles (begun period) (fs ++ gs)

@@ -10,6 +10,7 @@ use Rattle.base.specs.Lists.{sum, All}
 use Rattle.wire.specs.Frame.{kindOf}
 use Rattle.elements.specs.Elements.{rowOf}
 use Rattle.row.specs.declared.Row.{Row}
+use Rattle.row.specs.Row.{mostOutages}
 use Rattle.table.specs.declared.Table.{Table}
 use Rattle.table.specs.Table.{rowOr}
 use Rattle.filing.specs.Fields.{codeIn, startIn, endIn, unitIn, amountIn}
@@ -63,7 +64,7 @@ pub record Fitting (s : List ℕ) : Type 0 where
 pub record Each (t : Table) (ss : List (List ℕ)) : Type 0 where
   pub fitting : All Fitting ss
   pub once : (row : ℕ) → row < 62 → cond (ltb 0 (rowOr (t .rows) row .stock)) 1 0 + total (stocksOf row) ss ≤ 1
-  pub room : (row : ℕ) → row < 62 → rowOr (t .rows) row .outages + total (outagesOf row) ss ≤ 65535
+  pub room : (row : ℕ) → row < 62 → rowOr (t .rows) row .outages + total (outagesOf row) ss ≤ mostOutages
 
 -- a table after such records: each row has all that they tell of its element
 pub record Tells (t : Table) (ss : List (List ℕ)) (u : Table) : Type 0 where

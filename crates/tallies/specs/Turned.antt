@@ -4,7 +4,7 @@ use Prim.Native.Nat.{ℕ}
 use mathlib.Core.Path.{_≡_}
 use mathlib.Core.List.{List, [], _∷_, map}
 use Rattle.wire.specs.Cut.{joined}
-use Rattle.order.specs.Perm.{Perm}
+use Rattle.base.specs.Perm.{Perm}
 use Rattle.table.specs.declared.Table.{Table}
 use Rattle.yearly.specs.Yearly.{afterFiles, AcceptedFiles}
 

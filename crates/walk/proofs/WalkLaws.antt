@@ -1,6 +1,6 @@
 -- What a walk over an event's steps comes to: the tests of all its steps, its last time, and the figures that the annex's fold gives. Assumes nothing.
 use Prim.Native.Nat.{ℕ, zero, suc, _+_, _-_, _<_, max}
-use mathlib.Core.Path.{_≡_, refl, sym, ap, _∙_}
+use mathlib.Core.Path.{_≡_, refl, sym, ap, subst, _∙_}
 use mathlib.Core.List.{List, [], _∷_}
 use mathlib.Core.Bool.{Bool, true, false, _&&_, _||_, cond, or-assoc, or-false}
 use lib.ListN.{getD}
@@ -11,83 +11,76 @@ use native.Mathlib.Nat.{not-suc-le-zero}
 use native.Mathlib.Numerals.{sub-one}
 use Rattle.base.specs.Lists.{any, largest}
 use Rattle.base.proofs.TestLaws.{or-left, or-right, or-both, Tested, holds, fails, test}
+use Rattle.annex.specs.declared.Course.{Course}
 use Rattle.annex.specs.declared.Step.{Step}
-use Rattle.annex.specs.Figures.{nothing, withStep, customersAt}
+use Rattle.annex.specs.Figures.{customersAt}
 use Rattle.annex.specs.Annex.{countsOf}
-use Rattle.annex.proofs.FoldLaws.{stepped-customers}
-use Rattle.annex.specs.Stepped.{folded, lastTime, steppedFigures}
-use Rattle.annex.specs.Bounds.{Few, Timely}
-use Rattle.annex.proofs.Bounds.{timely-nothing, timely-step}
+use Rattle.annex.proofs.FoldLaws.{stepped-customers, course-last}
+use Rattle.annex.specs.Stepped.{begun, coursed, coursedAll, lastTime, steppedFigures}
+use Rattle.annex.specs.Inside.{Few, Timely}
+use Rattle.annex.proofs.Bounds.{timely-begun, timely-step}
 use Rattle.walk.specs.declared.Walk.{Walk}
 use Rattle.fields.specs.Fields.{stepAt, stepsFrom}
 use Rattle.limits.specs.Limits.{lateStep, anyLate, exceeding, aboveLevel, exceedingFigures, figuresAbove}
 use Rattle.limits.proofs.LimitLaws.{in-time}
-use Rattle.walk.specs.Walk.{begun, walkedStep, walked}
+use Rattle.walk.specs.Walk.{setOut, lateBy, walkedStep, walked}
 
-pub late-from : (w : Walk) (ss : List Step) → walked w ss .late ≡ (w .late || anyLate (w .last) ss)
+pub late-from : (w : Walk) (ss : List Step) → walked w ss .late ≡ (w .late || anyLate (w .course .last) ss)
 unfolding walkedStep
 late-from w [] = sym (or-false (w .late))
 late-from w (s ∷ ss) =
-    late-from (walkedStep w s) ss ∙ or-assoc (w .late) (lateStep (w .last) (s .time)) (anyLate (s .time) ss)
+    late-from (walkedStep w s) ss
+    ∙ ap (λ t. lateBy w s || anyLate t ss) (last-by (lateBy w s))
+    ∙ or-assoc (w .late) (lateStep (w .course .last) (s .time)) (anyLate (s .time) ss)
+  where
+    last-by : (b : Bool) → cond b (begun (s .time)) (coursed (w .course) s) .last ≡ s .time
+    last-by true = refl
+    last-by false = refl
 
-pub last-from : (w : Walk) (ss : List Step) → walked w ss .last ≡ lastTime (w .last) ss
+-- while no time breaks a rule the walk goes along the event's course
+pub course-from : (w : Walk) (ss : List Step) → w .late ≡ false → anyLate (w .course .last) ss ≡ false → walked w ss .course ≡ coursedAll (w .course) ss
 unfolding walkedStep
-last-from w [] = refl
-last-from w (s ∷ ss) = last-from (walkedStep w s) ss
-
-pub figures-from :
-    (w : Walk) (ss : List Step) →
-    w .late ≡ false →
-    anyLate (w .last) ss ≡ false →
-    walked w ss .figures ≡ folded (w .figures) (w .last) ss
-unfolding walkedStep
-figures-from w [] e f = refl
-figures-from w (s ∷ ss) e f =
-    let late : (w .late || lateStep (w .last) (s .time)) ≡ false =
-    or-both (w .late) (lateStep (w .last) (s .time)) e (or-left (lateStep (w .last) (s .time)) (anyLate (s .time) ss) f) in
-    figures-from (walkedStep w s) ss late (or-right (lateStep (w .last) (s .time)) (anyLate (s .time) ss) f)
-    ∙ ap (λ b. folded (cond b nothing (withStep (w .figures) (s .counts) (s .time - w .last))) (s .time) ss) late
+course-from w [] e f = refl
+course-from w (s ∷ ss) e f =
+    let late : lateBy w s ≡ false =
+    or-both (w .late) (lateStep (w .course .last) (s .time)) e (or-left (lateStep (w .course .last) (s .time)) (anyLate (s .time) ss) f) in
+    let on : cond (lateBy w s) (begun (s .time)) (coursed (w .course) s) ≡ coursed (w .course) s = rw late in
+    course-from (walkedStep w s) ss late
+    (subst (λ c. anyLate (c .last) ss ≡ false) (sym on) (or-right (lateStep (w .course .last) (s .time)) (anyLate (s .time) ss) f))
+    ∙ ap (λ c. coursedAll c ss) on
 
 module _ (t0 : ℕ) (ss : List Step) where
-  pub walked-late : walked (begun t0) ss .late ≡ anyLate t0 ss
-  walked-late = late-from (begun t0) ss
+  pub walked-late : walked (setOut t0) ss .late ≡ anyLate t0 ss
+  walked-late = late-from (setOut t0) ss
 
-  pub walked-last : walked (begun t0) ss .last ≡ lastTime t0 ss
-  walked-last = last-from (begun t0) ss
+  module _ (timely : anyLate t0 ss ≡ false) where
+    walked-course : walked (setOut t0) ss .course ≡ coursedAll (begun t0) ss
+    walked-course = course-from (setOut t0) ss refl timely
 
-  pub walked-figures : anyLate t0 ss ≡ false → walked (begun t0) ss .figures ≡ steppedFigures t0 ss
-  walked-figures = figures-from (begun t0) ss refl
+    pub walked-last : walked (setOut t0) ss .course .last ≡ lastTime t0 ss
+    walked-last = ap (λ (c : Course). c .last) walked-course ∙ course-last (begun t0) ss
+
+    pub walked-figures : walked (setOut t0) ss .course .figures ≡ steppedFigures t0 ss
+    walked-figures = ap (λ (c : Course). c .figures) walked-course
 
 -- a step after which a time has broken a rule, and one after which none has
-pub step-late :
-    (w : Walk) (s : Step) → (w .late || lateStep (w .last) (s .time)) ≡ true → walkedStep w s .figures ≡ nothing
-unfolding walkedStep
-step-late w s e = rw e
+module _ (w : Walk) (s : Step) where
+  pub step-late : lateBy w s ≡ true → walkedStep w s .course ≡ begun (s .time)
+  unfolding walkedStep
+  step-late e = rw e
 
-pub step-timed :
-    (w : Walk) (s : Step) →
-    (w .late || lateStep (w .last) (s .time)) ≡ false →
-    walkedStep w s .figures ≡ withStep (w .figures) (s .counts) (s .time - w .last)
-unfolding walkedStep
-step-timed w s e = rw e
+  pub step-timed : lateBy w s ≡ false → walkedStep w s .course ≡ coursed (w .course) s
+  unfolding walkedStep
+  step-timed e = rw e
 
-pub timely-kept :
-    (w : Walk) (s : Step) →
-    Timely (w .figures) (w .last) →
-    Few 4294967295 (s .counts) →
-    Timely (walkedStep w s .figures) (walkedStep w s .last)
-unfolding walkedStep
-timely-kept w s t few = go (test late)
-  where
-    late : Bool
-    late = w .late || lateStep (w .last) (s .time)
-
-    go : Tested late → Timely (cond late nothing (withStep (w .figures) (s .counts) (s .time - w .last))) (s .time)
-    go (holds e) = rw e (timely-nothing (s .time))
-    go (fails e) =
-        rw e
-        (timely-step (w .figures) (s .counts) (w .last) (s .time) t few
-        (in-time (w .last) (s .time) (or-right (w .late) (lateStep (w .last) (s .time)) e) .0))
+  pub timely-kept : Timely (w .course) → Few 4294967295 (s .counts) → Timely (walkedStep w s .course)
+  timely-kept t few = go (test (lateBy w s))
+    where
+      go : Tested (lateBy w s) → Timely (walkedStep w s .course)
+      go (holds e) = subst Timely (sym (step-late e)) (timely-begun (s .time))
+      go (fails e) =
+          subst Timely (sym (step-timed e))
+          (timely-step (w .course) s t (in-time (w .course .last) (s .time) (or-right (w .late) (lateStep (w .course .last) (s .time)) e) .0) few)
 
 -- one step of those that follow is taken
 pub one-taken :

@@ -2,50 +2,45 @@
 ghost use mathlib.Core.Path.{_≡_};
 ghost use Prim.Native.Nat.{_+_, _*_, _≤_};
 ghost use lib.ListN.{length};
-ghost use Rattle.annex.specs.Bounds.{Timely};
+ghost use Rattle.annex.specs.Inside.{Timely};
 ghost use Rattle.fields.specs.Fields.{stepsFrom};
-ghost use Rattle.walk.specs.Walk.{begun, walkedStep, walked};
-use annex::Figures;
+ghost use Rattle.walk.specs.Walk.{setOut, walkedStep, walked};
+use annex::Course;
 use annex::Step;
 
-// The steps of an event so far: whether a time broke a rule; the last time; and the figures, while no time broke one.
+// The steps of an event so far: whether a time broke a rule, and the event's course, while none did.
 pub struct Walk {
     pub late: bool,
-    pub last: u32,
-    pub figures: Figures,
+    pub course: Course,
 }
 
 impl Walk {
     // Before the first step.
     pub fn begin(t0: u32) -> Walk
-        ensures { λ r. ⌜ r ≡ begun t0 ⌝ }
+        ensures { λ r. ⌜ r ≡ setOut t0 ⌝ }
     {
         Walk {
             late: false,
-            last: t0,
-            figures: Figures::none(),
+            course: Course::begin(t0),
         }
     }
 
     // One step more.
     pub fn with(self, step: Step) -> Walk
-        requires { ⌜ Timely (self .figures) (self .last) ⌝ }
+        requires { ⌜ Timely (self .course) ⌝ }
         ensures { λ r. ⌜ r ≡ walkedStep self step ⌝ }
     {
-        let n = step.counts;
-        let late = self.late | limits::is_late(step.time, self.last);
+        let course = self.course;
+        let late = self.late | limits::is_late(step.time, course.last);
         if late {
             return Walk {
                 late: true,
-                last: step.time,
-                figures: Figures::none(),
+                course: Course::begin(step.time),
             };
         }
-        let f = self.figures;
         Walk {
             late: false,
-            last: step.time,
-            figures: f.with_step(n, step.time - self.last),
+            course: course.with(step),
         }
     }
 }
@@ -53,7 +48,7 @@ impl Walk {
 // All the steps of a record of kind 3 that states so many, and has them.
 pub fn walk_of(s: &[u8], steps: u8, t0: u32) -> Walk
     requires { ⌜ 14 + 16 * steps ≤ length (now s) ⌝ }
-    ensures { λ r. ⌜ r ≡ walked (begun t0) (stepsFrom (now (s .entry)) steps 14) ⌝ }
+    ensures { λ r. ⌜ r ≡ walked (setOut t0) (stepsFrom (now (s .entry)) steps 14) ⌝ }
 {
     let mut w = Walk::begin(t0);
     let mut at: usize = 14;

@@ -3,3 +3,5 @@ pub mod PlaceLaws
 pub mod CutLaws
 pub mod AppendLaws
 pub mod OneOutcome
+pub mod ByteLaws
+pub mod WriteLaws

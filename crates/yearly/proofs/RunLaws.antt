@@ -1,5 +1,4 @@
--- How the loop over a file's records goes: what has been taken so far and what is still to come are together the whole run; and a sound table stays
--- sound as a file is read. Assumes nothing.
+-- How the loop over a file's records goes, by the run of records' laws; and a sound table stays sound as a file is read. Assumes nothing.
 use Prim.Native.Nat.{ℕ, _+_, _-_, _<_, _≤_}
 use mathlib.Core.Path.{_≡_, refl, sym, ap, _∙_, subst⁻¹}
 use mathlib.Core.List.{List, [], _∷_}
@@ -14,6 +13,10 @@ use Rattle.wire.specs.declared.Stand.{Stand}
 use Rattle.wire.specs.Book.{placeAt, standOf, whichAt, recordAt, afterAt, partOf}
 use Rattle.wire.specs.Cut.{recordsOf, recordsFrom, stopFrom}
 use Rattle.wire.proofs.CutLaws.{records-is, passed, halted, starts-there, few-records}
+use Rattle.records.specs.Records.{oneIfRefused, isBroken}
+use Rattle.records.proofs.TakeLaws as all
+use Rattle.records.proofs.TakeLaws.{one-at-most}
+use Rattle.records.proofs.RunLaws as run
 use Rattle.table.specs.declared.Table.{Table}
 use Rattle.table.specs.declared.Filed.{Filed}
 use Rattle.table.specs.Table.{soundTable, marked, fileBegun}
@@ -25,112 +28,49 @@ use Rattle.table.proofs.RefusedLaws.{file-hands-back}
 use Rattle.table.proofs.SoundLaws.{marked-sound, sound-stays-sound}
 use Rattle.yearly.specs.declared.Run.{Run}
 use Rattle.yearly.specs.declared.Reading.{Reading}
-use Rattle.yearly.specs.Yearly.{State, starting, oneIfRefused, takeRecord, takeAll, afterRecords, afterFile, isBroken, runOf, fileOf}
+use Rattle.yearly.specs.Yearly.{State, starting, takeRecord, takeAll, afterRecords, afterFile, runOf, fileOf}
 
--- a record is counted as at most one refusal
-pub one-at-most : (n answer : ℕ) → n ≡ oneIfRefused answer → n ≤ 1
-one-at-most n answer e = subst⁻¹ (λ (x : ℕ). x ≤ 1) e (go (eqb answer 0))
-  where
-    go : (t : Bool) → cond t 0 1 ≤ 1
-    go true = omega arith
-    go false = omega arith
+-- how the refused records are counted
+abbrev pub refusedIn : State → ℕ
+refusedIn st = st .refused
+
+abbrev pub answerIn : State → List ℕ → ℕ
+answerIn st s = answerOf (st .table) s
+
+pub refused-counted : (st : State) (s : List ℕ) → refusedIn (takeRecord st s) ≡ refusedIn st + oneIfRefused (answerIn st s)
+unfolding takeRecord
+refused-counted st s = refl
+
+pub refused-below : (t : Table) (bytes : List ℕ) → afterRecords t bytes .refused ≤ length bytes
+refused-below t bytes = omega (arith, all.refused-below takeRecord refusedIn answerIn refused-counted (starting t) bytes)
 
 -- at a turn of the loop over the records of some bytes, begun from table t₀: table t, r refused records so far, and what stands next
-pub record Going (t₀ : Table) (bytes : List ℕ) (t : Table) (r : ℕ) (stand : Stand) : Type 0 where
-  pub stands : stand ≡ standOf (placeAt bytes (stand .start)) (stand .start)
-  pub run : takeAll (starting t₀) (recordsOf bytes) ≡ takeAll (record { table = t; refused = r }) (recordsFrom bytes (stand .start))
-  pub stop : stopFrom bytes (stand .start) ≡ stopFrom bytes 0
-  pub few : r ≤ stand .start
-
-module _ (bytes : List ℕ) (at : ℕ) (stand : Stand) (e : stand ≡ standOf (placeAt bytes at) at) where
-  stand-at : stand .start ≡ at
-  stand-at = ap (λ (x : Stand). x .start) e ∙ starts-there bytes at
-
-  stand-here : stand ≡ standOf (placeAt bytes (stand .start)) (stand .start)
-  stand-here = e ∙ ap (λ (n : ℕ). standOf (placeAt bytes n) n) (sym stand-at)
-
 module _ (t₀ : Table) (bytes : List ℕ) where
-  pub going-begins : (stand : Stand) → stand ≡ standOf (placeAt bytes 0) 0 → Going t₀ bytes t₀ 0 stand
-  going-begins stand e =
-      let at : stand .start ≡ 0 = stand-at bytes 0 stand e in
-      record {
-        stands = stand-here bytes 0 stand e;
-        run = ap (takeAll (starting t₀)) (sym (records-is bytes) ∙ ap (recordsFrom bytes) (sym at));
-        stop = ap (stopFrom bytes) at;
-        few = omega arith;
-      }
+  abbrev pub Going : Table → ℕ → Stand → Type 0
+  Going t r stand = run.Going takeRecord refusedIn (starting t₀) bytes (record { table = t; refused = r }) stand
 
-  module _ (t : Table) (r : ℕ) (stand : Stand) (g : Going t₀ bytes t r stand) where
-    which-here : whichAt bytes (stand .start) ≡ stand .which
-    which-here = ap (λ (x : Stand). x .which) (sym (g .stands))
-
-    after-here : afterAt bytes (stand .start) ≡ stand .end
-    after-here = ap (λ (x : Stand). x .end) (sym (g .stands))
-
-    -- the bytes between start and end are those of the record that stands there
-    bytes-here : partOf bytes (stand .start) (stand .end) ≡ recordAt bytes (stand .start)
-    bytes-here = λ i. partOf bytes (sym (starts-there bytes (stand .start)) i) (sym after-here i)
-
-    -- a refusal more can be counted: there are fewer than there are bytes
-    pub going-room : stand .which ≡ 0 → r < length bytes
-    going-room one = let p = passed bytes (stand .start) (which-here ∙ one) in omega (arith, g .few, p .2, p .3)
-
-    module _ (next : Stand) (there : next ≡ standOf (placeAt bytes (stand .end)) (stand .end)) (one : stand .which ≡ 0) where
-      next-start : next .start ≡ stand .end
-      next-start = stand-at bytes (stand .end) next there
-
-      pub going-nearer : length bytes - next .start < length bytes - stand .start
-      going-nearer =
-          let p = passed bytes (stand .start) (which-here ∙ one) in
-          omega (arith, p .2, p .3, next-start, after-here)
-
-      -- the record that stands next is taken, and what it came to is filed
-      pub going-on :
-          (filed : Filed) (n : ℕ) →
-          filed ≡ takenOf t (partOf bytes (stand .start) (stand .end)) →
-          n ≡ oneIfRefused (filed .answer) →
-          Going t₀ bytes (filed .table) (r + n) next
-      unfolding takeRecord
-      going-on filed n is counted =
-          let p = passed bytes (stand .start) (which-here ∙ one) in
-          let s = recordAt bytes (stand .start) in
-          let taken : takenOf t s ≡ filed = sym (is ∙ ap (takenOf t) bytes-here) in
-          let step : takeRecord (record { table = t; refused = r }) s ≡ record { table = filed .table; refused = r + n } =
-          λ i. record { table = taken i .table; refused = r + (ap (λ (f : Filed). oneIfRefused (f .answer)) taken ∙ sym counted) i } in
-          record {
-            stands = stand-here bytes (stand .end) next there;
-            run =
-                g .run ∙
-                ap (takeAll (record { table = t; refused = r })) (p .0) ∙
-                (λ i. takeAll (step i) (recordsFrom bytes ((after-here ∙ sym next-start) i)));
-            stop = ap (stopFrom bytes) (next-start ∙ sym after-here) ∙ sym (p .1) ∙ g .stop;
-            few = omega (arith, one-at-most n (filed .answer) counted, g .few, p .2, next-start, after-here);
-          }
+  module _ (t : Table) (r : ℕ) (stand : Stand) (g : Going t r stand) where
+    -- the record that stands next is taken, and what it came to is filed
+    pub going-on :
+        (next : Stand) →
+        next ≡ standOf (placeAt bytes (stand .end)) (stand .end) →
+        stand .which ≡ 0 →
+        (filed : Filed) (n : ℕ) →
+        filed ≡ takenOf t (partOf bytes (stand .start) (stand .end)) →
+        n ≡ oneIfRefused (filed .answer) →
+        Going (filed .table) (r + n) next
+    unfolding takeRecord
+    going-on next there one filed n is counts =
+        let same = ap (λ (f : Filed). oneIfRefused (f .answer)) is in
+        run.going-on takeRecord refusedIn (starting t₀) bytes _ stand g next there one _
+        (λ i. record { table = is i .table; refused = r + (counts ∙ same) i })
+        (omega (arith, one-at-most (filed .answer), counts))
 
     -- where no record stands the run is over
     pub going-ends : (stand .which ≡ 0 → ⊥) → record { table = t; refused = r; stop = stand .start; which = stand .which } ≡ runOf t₀ bytes
     going-ends over =
-        let h = halted bytes (stand .start) (λ z. over (sym which-here ∙ z)) in
-        let done : record { table = t; refused = r } ≡ takeAll (starting t₀) (recordsOf bytes) =
-        sym (g .run ∙ ap (takeAll (record { table = t; refused = r })) (h .0)) in
-        let at : stand .start ≡ stopFrom bytes 0 = sym (h .1) ∙ g .stop in
-        λ i.
-        record {
-          table = done i .table;
-          refused = done i .refused;
-          stop = at i;
-          which = (sym which-here ∙ ap (whichAt bytes) at) i;
-        }
-
--- at most every record is refused
-refused-at-most : (st : State) (ss : List (List ℕ)) → takeAll st ss .refused ≤ st .refused + length ss
-unfolding takeRecord
-refused-at-most st [] = omega arith
-refused-at-most st (s ∷ ss) =
-    omega (arith, refused-at-most (takeRecord st s) ss, one-at-most (oneIfRefused (answerOf (st .table) s)) (answerOf (st .table) s) refl)
-
-pub refused-below : (t : Table) (bytes : List ℕ) → afterRecords t bytes .refused ≤ length bytes
-refused-below t bytes = omega (arith, refused-at-most (starting t) (recordsOf bytes), few-records bytes)
+        let e = run.going-ends takeRecord refusedIn (starting t₀) bytes _ stand g over in
+        λ i. record { table = e .0 i .table; refused = e .0 i .refused; stop = e .1 i; which = e .2 i }
 
 -- how a file was begun, by the answer: 0 of a sound table, whose mark is then cleared, and else the table as it was
 module _ (t : Table) (begun : Filed) (is : begun ≡ fileBegun t) where
@@ -147,10 +87,12 @@ module _ (t : Table) (begun : Filed) (is : begun ≡ fileBegun t) where
       go (fails u) = (u, ap (λ (f : Filed). f .table) is ∙ file-hands-back t u)
 
 -- sound stays sound, over any records
-pub run-sound : (st : State) (ss : List (List ℕ)) → soundTable (st .table) ≡ true → soundTable (takeAll st ss .table) ≡ true
+pub record-sound : (st : State) (s : List ℕ) → soundTable (st .table) ≡ true → soundTable (takeRecord st s .table) ≡ true
 unfolding takeRecord
-run-sound st [] e = e
-run-sound st (s ∷ ss) e = run-sound (takeRecord st s) ss (sound-stays-sound (st .table) s e)
+record-sound st s e = sound-stays-sound (st .table) s e
+
+pub run-sound : (st : State) (ss : List (List ℕ)) → soundTable (st .table) ≡ true → soundTable (takeAll st ss .table) ≡ true
+run-sound = all.all-keep takeRecord (λ (st : State). soundTable (st .table) ≡ true) record-sound
 
 -- how a whole file goes: unread, or run through to its end or to a broken length
 module _ (t : Table) (file : List ℕ) where

@@ -3,9 +3,10 @@
 use Prim.Native.Nat.{ℕ, _+_}
 use mathlib.Core.Path.{_≡_}
 use mathlib.Core.List.{List, [], _∷_}
-use mathlib.Core.Bool.{Bool, true, false, cond}
-use lib.Dec.{eqb}
+use mathlib.Core.Bool.{true, false, cond}
 use Rattle.wire.specs.Cut.{recordsOf, stopFrom, endsBy}
+use Rattle.records.specs.Records as records
+use Rattle.records.specs.Records.{oneIfRefused, isBroken}
 use Rattle.table.specs.declared.Table.{Table}
 use Rattle.table.specs.Table.{soundTable, marked}
 use Rattle.table.specs.Rules.{answerOf}
@@ -21,16 +22,12 @@ pub record State : Type 0 where
 abbrev pub starting : Table → State
 starting t = record { table = t; refused = 0 }
 
-abbrev pub oneIfRefused : ℕ → ℕ
-oneIfRefused answer = cond (eqb answer 0) 0 1
-
 -- one record, as the table's `take` takes it
 unfoldable pub takeRecord : State → List ℕ → State
 takeRecord st s = record { table = tableAfter (st .table) s; refused = st .refused + oneIfRefused (answerOf (st .table) s) }
 
 abbrev pub takeAll : State → List (List ℕ) → State
-takeAll st [] = st
-takeAll st (s ∷ ss) = takeAll (takeRecord st s) ss
+takeAll = records.takeAll takeRecord
 
 -- the state after the whole records of some bytes, with where and how the reading stopped
 abbrev pub afterRecords : Table → List ℕ → State
@@ -44,9 +41,6 @@ runOf t bytes =
       stop = stopFrom bytes 0;
       which = endsBy bytes;
     }
-
-abbrev pub isBroken : List ℕ → Bool
-isBroken file = eqb (endsBy file) 2
 
 -- a file is begun, which clears the sheet-seen mark, and its records are taken
 abbrev pub afterFile : Table → List ℕ → State

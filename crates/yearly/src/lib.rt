@@ -22,13 +22,6 @@ pub struct Reading {
     pub broken: bool,
 }
 
-// 1 for a refusal, 0 for none.
-fn one_if_refused(answer: u8) -> u64
-    ensures { λ r. ⌜ r ≡ Rattle.yearly.specs.Yearly.oneIfRefused answer ⌝ }
-{
-    if answer == 0 { 0 } else { 1 }
-}
-
 // The records of some bytes, one after the other.
 pub fn take_records(table: Table, bytes: &[u8]) -> Run
     ensures { λ r. ⌜ r ≡ runOf table (now (bytes .entry)) ⌝ }
@@ -39,7 +32,7 @@ pub fn take_records(table: Table, bytes: &[u8]) -> Run
     while stand.which == 0 {
         let end = stand.end;
         let filed = t.take(wire::part(bytes, stand.start, end));
-        refused += one_if_refused(filed.answer);
+        refused += records::one_if_refused(filed.answer);
         t = filed.table;
         stand = wire::stand_at(bytes, end);
     }

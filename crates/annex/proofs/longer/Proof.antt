@@ -6,17 +6,10 @@ use Rattle.annex.specs.Figures.{halfMinutes}
 use Rattle.annex.proofs.longer.Statement.{statement}
 use Rattle.annex.proofs.longer.Tie as tie
 
-mul-weigh : tie.Need-mul-weigh
-mul-weigh c = search needs
-
-weigh-requires : tie.Need-weigh-requires
-weigh-requires c κs = search needs
-
-add-t7 : tie.Need-add-t7
-add-t7 c = search needs
-
 returns : tie.Need-returns
 returns c = ap (λ w. halfMinutes (c .before .before .args .h .0 + w)) (c .before .weigh .ensures .0)
 
 pub longer-spec : {M : Type 1} → statement M
-longer-spec = tie.close (tie.spec mul-weigh weigh-requires add-t7 returns)
+longer-spec = tie.close
+    (tie.spec
+    (λ c. search needs) (λ c κs. search needs) (λ c. search needs) returns)

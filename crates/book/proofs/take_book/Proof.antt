@@ -12,7 +12,8 @@ use Rattle.base.proofs.TestLaws.{or-left, or-right}
 use Rattle.ledger.specs.Sound.{soundLedger}
 use Rattle.ledger.specs.Take.{unsound}
 use Rattle.book.specs.declared.Run.{Run}
-use Rattle.book.specs.Book.{isBroken, afterBook}
+use Rattle.records.specs.Records.{isBroken}
+use Rattle.book.specs.Book.{afterBook}
 use Rattle.book.proofs.RunLaws.{read-nothing, read-through, refused-below}
 use borrow.Author.Needs.{needs}
 use Rattle.book.proofs.take_book.Statement.{statement}
@@ -24,9 +25,6 @@ tested c = λ i. not (eqb (length (c .before .before .before .args .map .now)) 8
 
 fine : (c : tie.Else1) → unsound (c .before .before .before .before .args .ledger) (c .before .before .before .before .args .map .now) ≡ false
 fine c = sym (tested (c .before)) ∙ c .if1 .left
-
-sound-requires : tie.Need-sound-requires
-sound-requires c κs = search needs
 
 returns : tie.Need-returns
 returns c =
@@ -49,9 +47,6 @@ add-t13 c =
     subst⁻¹ (λ (r : Run). r .refused ≤ length (a .book .now)) (c .before .before .before .before .before .before .take-records .ensures .0) (refused-below (a .ledger) (a .map .now) (a .book .now)) in
     omega (arith, c .before .before .before .before .before .before .before .before .before .before .before .before .good .1 .1 .0)
 
-same-length : tie.Need-same-length
-same-length c = search needs
-
 returns-2 : tie.Need-returns-2
 returns-2 c =
     let a = c .before .before .before .before .before .before .before .before .before .before .before .before .args in
@@ -65,9 +60,6 @@ returns-2 c =
           sym (h .0),
       run .1 ∙ sym (h .1),
     )
-
-same-length-2 : tie.Need-same-length-2
-same-length-2 c = search needs
 
 returns-3 : tie.Need-returns-3
 returns-3 c =
@@ -87,11 +79,4 @@ pub take-book-spec : {M : Type 1} → statement M
 take-book-spec =
     tie.close
     (tie.spec
-    sound-requires
-    returns
-    take-records-requires
-    add-t13
-    same-length
-    returns-2
-    same-length-2
-    returns-3)
+    (λ c κs. search needs) returns take-records-requires add-t13 (λ c. search needs) returns-2 (λ c. search needs) returns-3)

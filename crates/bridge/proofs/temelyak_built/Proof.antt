@@ -7,20 +7,11 @@ use borrow.Author.Needs.{needs}
 use Rattle.bridge.proofs.temelyak_built.Statement.{statement}
 use Rattle.bridge.proofs.temelyak_built.Tie as tie
 
-returns : tie.Need-returns
-returns c = search needs
-
-returns-2 : tie.Need-returns-2
-returns-2 c = search needs
-
 returns-3 : tie.Need-returns-3
 returns-3 c = search needs
 
 returns-4 : tie.Need-returns-4
 returns-4 c = search needs
-
-returns-5 : tie.Need-returns-5
-returns-5 c = search needs
 
 returns-6 : tie.Need-returns-6
 returns-6 c =
@@ -28,4 +19,6 @@ returns-6 c =
 
 pub temelyak-built-spec : {M : Type 1} → statement M
 temelyak-built-spec =
-    tie.close (tie.spec returns returns-2 returns-3 returns-4 returns-5 returns-6)
+    tie.close
+    (tie.spec
+    (λ c. search needs) (λ c. search needs) returns-3 returns-4 (λ c. search needs) returns-6)

@@ -15,16 +15,10 @@ use borrow.Author.Needs.{needs}
 use Rattle.bridge.proofs.temelyak_decimal.Statement.{statement}
 use Rattle.bridge.proofs.temelyak_decimal.Tie as tie
 
-all-named-requires : tie.Need-all-named-requires
-all-named-requires c κs = search needs
-
 returns : tie.Need-returns
 returns c =
     let a = c .before .before .before .before .args in
     decimal-unnamed (a .header) (a .ledger .now) (a .index) (a .level) (a .set) (a .digits) (a .out .now) (sym (c .before .all-named .ensures) ∙ not-true _ (c .if1 .taken))
-
-answer-by-requires : tie.Need-answer-by-requires
-answer-by-requires c κs = search needs
 
 returns-2 : tie.Need-returns-2
 returns-2 c =
@@ -34,33 +28,6 @@ returns-2 c =
     (sym (c .before .before .before .all-named .ensures) ∙ not-false _ (c .before .before .if1 .left))
     (ne-eqb (length (a .out .now)) 2 (c .before .if2 .taken)) in
     (c .answer-by .ensures ∙ u .0, u .1)
-
-lent-ledger-requires : tie.Need-lent-ledger-requires
-lent-ledger-requires c κs = search needs
-
-index-named-requires : tie.Need-index-named-requires
-index-named-requires c κs = search needs
-
-level-named-requires : tie.Need-level-named-requires
-level-named-requires c κs = search needs
-
-set-named-requires : tie.Need-set-named-requires
-set-named-requires c κs = search needs
-
-digits-or-7-requires : tie.Need-digits-or-7-requires
-digits-or-7-requires c κs = search needs
-
-decimal-of-requires : tie.Need-decimal-of-requires
-decimal-of-requires c κs = search needs
-
-decimal-pair-requires : tie.Need-decimal-pair-requires
-decimal-pair-requires c κs = search needs
-
-put-requires : tie.Need-put-requires
-put-requires c κs = search needs
-
-same-length : tie.Need-same-length
-same-length c = search needs
 
 returns-3 : tie.Need-returns-3
 returns-3 c =
@@ -87,17 +54,6 @@ pub temelyak-decimal-spec : {M : Type 1} → statement M
 temelyak-decimal-spec =
     tie.close
     (tie.spec
-    all-named-requires
-    returns
-    answer-by-requires
-    returns-2
-    lent-ledger-requires
-    index-named-requires
-    level-named-requires
-    set-named-requires
-    digits-or-7-requires
-    decimal-of-requires
-    decimal-pair-requires
-    put-requires
-    same-length
+    (λ c κs. search needs) returns (λ c κs. search needs) returns-2 (λ c κs. search needs) (λ c κs. search needs) (λ c κs. search needs)
+    (λ c κs. search needs) (λ c κs. search needs) (λ c κs. search needs) (λ c κs. search needs) (λ c κs. search needs) (λ c. search needs)
     returns-3)

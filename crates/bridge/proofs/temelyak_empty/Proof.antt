@@ -9,23 +9,11 @@ use borrow.Author.Needs.{needs}
 use Rattle.bridge.proofs.temelyak_empty.Statement.{statement}
 use Rattle.bridge.proofs.temelyak_empty.Tie as tie
 
-answer-by-requires : tie.Need-answer-by-requires
-answer-by-requires c κs = search needs
-
 returns : tie.Need-returns
 returns c =
     let a = c .before .before .before .args in
     let u = empty-unsized (a .header) (a .ledger .now) (ne-eqb (length (a .ledger .now)) 49 (c .before .if1 .taken)) in
     (c .answer-by .ensures ∙ u .0, u .1)
-
-empty-requires : tie.Need-empty-requires
-empty-requires c κs = search needs
-
-settle-requires : tie.Need-settle-requires
-settle-requires c κs = search needs
-
-same-length : tie.Need-same-length
-same-length c = search needs
 
 returns-2 : tie.Need-returns-2
 returns-2 c =
@@ -39,4 +27,5 @@ returns-2 c =
 pub temelyak-empty-spec : {M : Type 1} → statement M
 temelyak-empty-spec =
     tie.close
-    (tie.spec answer-by-requires returns empty-requires settle-requires same-length returns-2)
+    (tie.spec
+    (λ c κs. search needs) returns (λ c κs. search needs) (λ c κs. search needs) (λ c. search needs) returns-2)

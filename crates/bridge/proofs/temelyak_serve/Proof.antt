@@ -39,14 +39,14 @@ use denote.Triple.Call.{calls-at}
 use denote.Triple.Clauses.{ensured, lasts}
 use denote.Triple.Table.{entered, cited}
 use Rattle.ledger.specs.declared.Ledger.{Ledger}
-use Rattle.ledger.specs.declared.Taken.{Taken}
 use Rattle.ledger.proofs.Ledger.Laws as TLedger′
-use Rattle.ledger.proofs.Taken.Laws as TTaken′
 use Rattle.slot.specs.declared.Slot.{Slot}
+use Rattle.plan.specs.declared.Served.{Served}
+use Rattle.plan.proofs.Served.Laws as TServed′
 use Rattle.plan.specs.Serve.{servedOf, mapServed, deskServed}
 use Rattle.desk.proofs.SlotLaws.{R}
 use Rattle.desk.proofs.Shared.{LentOut, lends-out, out-back}
-use Rattle.desk.proofs.Rows.{LedgerR, TakenR, ledger-vals, ledger-tells, ledger-makes, ledger-typed, taken-vals, taken-tells, taken-makes, taken-typed}
+use Rattle.desk.proofs.Rows.{LedgerR, ServedR, ledger-vals, ledger-tells, ledger-makes, ledger-typed, served-vals, served-tells, served-makes, served-typed}
 use Rattle.words.specs.Header.{headed}
 use Rattle.words.specs.Inside.{lentLedger, settled}
 use Rattle.bridge.proofs.CallLaws.{serve-answer-is, serve-words-is, serve-map-is, serve-desk-is}
@@ -58,14 +58,15 @@ use Rattle.desk.proofs.serve as serve
 use Rattle.desk.proofs.serve.Symbol as serve-def
 use Rattle.desk.proofs.serve.Symbol.{name as #desk·serve}
 use Rattle.desk.proofs.serve.Met as serve-thm
-use Rattle.words.proofs.settle as settle
-use Rattle.words.proofs.settle.Symbol as settle-def
-use Rattle.words.proofs.settle.Symbol.{name as #words·settle}
-use Rattle.words.proofs.settle.Met as settle-thm
+use Rattle.bridge.proofs.settle_served as settle
+use Rattle.bridge.proofs.settle_served.Symbol as settle-def
+use Rattle.bridge.proofs.settle_served.Symbol.{name as #bridge·settle-served}
+use Rattle.bridge.proofs.settle_served.Met as settle-thm
 use Rattle.bridge.proofs.temelyak_serve.Key.{name as #bridge·temelyak-serve}
 use Rattle.bridge.proofs.temelyak_serve as temelyak-serve
 use Rattle.bridge.proofs.temelyak_serve.Statement as stated
 use Rattle.bridge.proofs.temelyak_serve.Code as code
+use Rattle.bridge.specs.Inside.{handedBack}
 
 abbrev stayed : Stays (temelyak-serve.ended .signature .params) (temelyak-serve.ended .kept)
 stayed = (stay-none (λ _. u64) yes, (gave-slice (0 ∷ []) tt (plain (λ _. u64)), (gave-slice (1 ∷ []) tt (plain (λ _. u8)), (gave-slice (2 ∷ []) tt (plain (λ _. R)), (stay-none-slice (3 ∷ []) tt (plain (λ _. u8)) yes, tt)))))
@@ -130,7 +131,7 @@ module _ {M : Type 1} (𝓤 : URA M) (H : Heap 𝓤) (A : Atoms 𝓤) (W : Given
   abbrev l : Ledger
   l = lentLedger h ws
 
-  abbrev t : Taken
+  abbrev t : Served
   t = servedOf l (m .now) (d .now) (s .now)
 
   abbrev r : ℕ
@@ -139,7 +140,7 @@ module _ {M : Type 1} (𝓤 : URA M) (H : Heap 𝓤) (A : Atoms 𝓤) (W : Given
   abbrev Post : Val → SProp 𝓤
   Post = walkOf 𝓤 H A temelyak-serve.ended stayed (temelyak-serve.clauses 𝓤 H A mem run) .post (((κ₀, (κ₁, (κ₂, (κ₃, tt)))), (q₀, (q₁, (q₂, (q₃, tt)))), tt, a, at), tt)
 
-  exits : (us cs : List ℕ) (zs : List Slot) → us ≡ settled h ws t → cs ≡ mapServed l (m .now) (d .now) (s .now) → zs ≡ deskServed l (m .now) (d .now) (s .now)
+  exits : (us cs : List ℕ) (zs : List Slot) → us ≡ settled h ws (handedBack t) → cs ≡ mapServed l (m .now) (d .now) (s .now) → zs ≡ deskServed l (m .now) (d .now) (s .now)
       → length us ≡ length ws → length cs ≡ length (m .now) → length zs ≡ length (d .now) → r < 2 ^ 32
       → ent 𝓤 (⋆ 𝓤 H A (‵ (flft κ₀ q₀) ∷ ‵ (flft κ₁ q₁) ∷ ‵ (flft κ₂ q₂) ∷ ‵ (flft κ₃ q₃) ∷ ‵ (finally u64 γ₀ us) ∷ ‵ (finally u8 (m .name) cs) ∷ ‵ (finally R (d .name) zs) ∷ ‵ Own₃ ∷ [])) (Post (vint w32 r))
   exits us cs zs e₀ e₁ e₂ n₀ n₁ n₂ fits =
@@ -164,13 +165,13 @@ module _ {M : Type 1} (𝓤 : URA M) (H : Heap 𝓤) (A : Atoms 𝓤) (W : Given
       qed W (‵ (flft κ₁ q₁) ∷ ‵ (flft κ₂ q₂) ∷ ‵ (flft κ₃ q₃) ∷ ‵ Own₁ ∷ ‵ Own₂ ∷ ‵ Own₃ ∷ []) ∵ nothing ! $ move ! (3 ∷ 0 ∷ []) $ join ! $ move ! (2 ∷ 0 ∷ []) $ join ! $ move ! (1 ∷ 0 ∷ []) $ join ! $ nothing ! $ move ! (4 ∷ 0 ∷ []) $ fjoin ! $ move ! (3 ∷ 0 ∷ []) $ fjoin ! $ move ! (2 ∷ 0 ∷ []) $ fjoin ! $ owned ! LedgerR (Is LedgerR) (ledger-makes 𝓤 H A W) l _ g $ fjoin ! $ move ! (1 ∷ 0 ∷ []) $ join ! $ frame ! $ done !
 
   abbrev to-settle : Settle 𝓤 H A mem run .Ghost
-  to-settle = (((κ₀, tt), (q₀, tt), tt, (h, (w γ₀, (t, tt))), (vint w64 h ∷ [], (v₀ ∷ [], (taken-vals t, tt)))), tt)
+  to-settle = (((κ₀, tt), (q₀, tt), tt, (h, (w γ₀, (t, tt))), (vint w64 h ∷ [], (v₀ ∷ [], (served-vals t, tt)))), tt)
 
-  goes-settle : Is TakenR t (taken-vals t) → ent 𝓤 (⋆ 𝓤 H A (‵ (flft κ₀ q₀) ∷ ‵ Own₀ ∷ [])) (Settle 𝓤 H A mem run .pre to-settle)
+  goes-settle : Is ServedR t (served-vals t) → ent 𝓤 (⋆ 𝓤 H A (‵ (flft κ₀ q₀) ∷ ‵ Own₀ ∷ [])) (Settle 𝓤 H A mem run .pre to-settle)
   goes-settle g =
-      qed W (‵ (flft κ₀ q₀) ∷ ‵ Own₀ ∷ []) ∵ nothing ! $ move ! (1 ∷ 0 ∷ []) $ join ! $ nothing ! $ owned ! TakenR (Is TakenR) (taken-makes 𝓤 H A W) t _ g $ fjoin ! $ move ! (2 ∷ 0 ∷ []) $ fjoin ! $ owned ! u64 (Is u64) (uint-makes 𝓤 H A W w64) h _ (refl, h-fits) $ fjoin ! $ move ! (1 ∷ 0 ∷ []) $ join ! $ frame ! $ done !
+      qed W (‵ (flft κ₀ q₀) ∷ ‵ Own₀ ∷ []) ∵ nothing ! $ move ! (1 ∷ 0 ∷ []) $ join ! $ nothing ! $ owned ! ServedR (Is ServedR) (served-makes 𝓤 H A W) t _ g $ fjoin ! $ move ! (2 ∷ 0 ∷ []) $ fjoin ! $ owned ! u64 (Is u64) (uint-makes 𝓤 H A W w64) h _ (refl, h-fits) $ fjoin ! $ move ! (1 ∷ 0 ∷ []) $ join ! $ frame ! $ done !
 
-  module _ (C : Calls 𝓤 H) (Λ : Loops 𝓤 H) (fm : FmC 𝓤 H (W .laws) C) (known-lent-ledger : Triple 𝓤 (C #words·lent-ledger) (LentLedger 𝓤 H A mem run)) (known-serve : Triple 𝓤 (C #desk·serve) (Serve 𝓤 H A mem run)) (known-settle : Triple 𝓤 (C #words·settle) (Settle 𝓤 H A mem run)) where
+  module _ (C : Calls 𝓤 H) (Λ : Loops 𝓤 H) (fm : FmC 𝓤 H (W .laws) C) (known-lent-ledger : Triple 𝓤 (C #words·lent-ledger) (LentLedger 𝓤 H A mem run)) (known-serve : Triple 𝓤 (C #desk·serve) (Serve 𝓤 H A mem run)) (known-settle : Triple 𝓤 (C #bridge·settle-served) (Settle 𝓤 H A mem run)) where
     walk : ent 𝓤 (onEntry 𝓤 H A temelyak-serve.signature (κ₀, (κ₁, (κ₂, (κ₃, tt)))) (q₀, (q₁, (q₂, (q₃, tt)))) a at) (WpFn 𝓤 H C Λ code.function (vint w64 h ∷ v₀ ∷ v₁ ∷ v₂ ∷ v₃ ∷ []) Post)
     walk =
         qed W ((‵ (flft κ₀ q₀) ⊛ ‵ (flft κ₁ q₁) ⊛ ‵ (flft κ₂ q₂) ⊛ ‵ (flft κ₃ q₃) ⊛ ‵ ftrue) ∷ ‵ (owns (u64 ∷ MutSlice (named 0) κ₀ u64 ∷ MutSlice (named 1) κ₁ u8 ∷ MutSlice (named 2) κ₂ R ∷ ShrSlice (named 3) κ₃ u8 ∷ []) a at) ∷ []) ∵
@@ -196,21 +197,21 @@ module _ {M : Type 1} (𝓤 : URA M) (H : Heap 𝓤) (A : Atoms 𝓤) (W : Given
         assigns ! (agg ! (and-then ! (load ! (from ! (stop !)) (look ! 14 refl)) (and-then ! (load ! (from ! (fld ! refl (stop !))) (look-in ! 30 (sub ! 1 refl (whole !)))) (no-more !)))) (from ! (stop !)) (init ! 12 refl (tt, (tt, (record { fits = room₂ .0 }, tt)))) $
         move ! (7 ∷ []) $ use1 W (‵ Own₃ ⊛ ‵ Own₃) (shr-slice-copy 𝓤 H A W (named 3) κ₃ u8 .twice s (v₃ ∷ [])) $ split ! $ move ! (4 ∷ 5 ∷ 6 ∷ 7 ∷ 8 ∷ 0 ∷ []) $ group ! 6 $ use1 W (raw (Serve 𝓤 H A mem run .pre to-serve)) (goes-serve (subst (Is LedgerR l) (ledger-tells l _ is₁) is₁)) $
         calls-at ! fm (Serve 𝓤 H A mem run) known-serve to-serve (and-then ! (load ! (from ! (stop !)) (look ! 22 refl)) (and-then ! (load ! (from ! (stop !)) (look ! 12 refl)) (and-then ! (load ! (from ! (stop !)) (look ! 8 refl)) (and-then ! (load ! (from ! (stop !)) (look ! 24 refl)) (no-more !))))) (λ w₂.
-        use1 W (later (some (λ (r : Taken). ((‵ (flft κ₁ q₁) ⊛ ‵ (flft κ₂ q₂) ⊛ ‵ (flft κ₃ q₃) ⊛ ‵ ftrue) ⊛ ‵ (TakenR .own r (w₂ ∷ []))) ⊛ raw (ensured 𝓤 H A serve.ended (serve.clauses 𝓤 H A mem run) (to-serve .0 .0) (to-serve .0 .3) tt r)))) (id⊢ 𝓤 _) $ await ! tt $ pick ! (λ r₂.
+        use1 W (later (some (λ (r : Served). ((‵ (flft κ₁ q₁) ⊛ ‵ (flft κ₂ q₂) ⊛ ‵ (flft κ₃ q₃) ⊛ ‵ ftrue) ⊛ ‵ (ServedR .own r (w₂ ∷ []))) ⊛ raw (ensured 𝓤 H A serve.ended (serve.clauses 𝓤 H A mem run) (to-serve .0 .0) (to-serve .0 .3) tt r)))) (id⊢ 𝓤 _) $ await ! tt $ pick ! (λ r₂.
         split ! $ move ! (1 ∷ []) $ use1 W (some (λ (zs : Unit {0} × (List ℕ × (List Slot × (Unit {0} × Unit {0})))). ‵ (lasts serve.ended (to-serve .0 .0) (to-serve .0 .3) zs) ⊛ raw (fact 𝓤 ((r₂ ≡ t) × (zs .1 .0 ≡ mapServed l (m .now) (d .now) (s .now)) × (zs .1 .1 .0 ≡ deskServed l (m .now) (d .now) (s .now)))))) (id⊢ 𝓤 _) $ pick ! (λ zs.
         split ! $ move ! (1 ∷ []) $ heard ! ((r₂ ≡ t) × (zs .1 .0 ≡ mapServed l (m .now) (d .now) (s .now)) × (zs .1 .1 .0 ≡ deskServed l (m .now) (d .now) (s .now))) (λ e₂.
         fsplit ! $ drop ! $ fsplit ! $ fsplit ! $ move ! (1 ∷ []) $ feqL ! (λ n₁. move ! (1 ∷ []) $ fsplit ! $ fsplit ! $ move ! (1 ∷ []) $ feqL ! (λ n₂. move ! (1 ∷ []) $ drop ! $
-        move ! (2 ∷ []) $ split ! $ move ! (1 ∷ []) $ rewrite ! 0 (λ (x : Taken). ‵ (TakenR .own x (w₂ ∷ []))) (e₂ .0) refl $ facts ! TakenR (Is TakenR) (shows 𝓤 H A TakenR) t (w₂ ∷ []) (λ is₂.
-        land ! (from ! (stop !)) (init ! 22 refl (taken-typed 𝓤 H A W t _ is₂)) $ rewrite ! 22 (λ (u : Val). ‵ (fat fullShare TTaken′.mir l₇ 0 u)) (ap only (taken-tells t _ is₂)) refl $
+        move ! (2 ∷ []) $ split ! $ move ! (1 ∷ []) $ rewrite ! 0 (λ (x : Served). ‵ (ServedR .own x (w₂ ∷ []))) (e₂ .0) refl $ facts ! ServedR (Is ServedR) (shows 𝓤 H A ServedR) t (w₂ ∷ []) (λ is₂.
+        land ! (from ! (stop !)) (init ! 22 refl (served-typed 𝓤 H A W t _ is₂)) $ rewrite ! 22 (λ (u : Val). ‵ (fat fullShare TServed′.mir l₇ 0 u)) (ap only (served-tells t _ is₂)) refl $
         split ! $ move ! (1 ∷ []) $ split ! $ move ! (1 ∷ []) $ split ! $ move ! (1 ∷ []) $ drop ! $
-        -- `settle`
+        -- `settle_served`
         assigns ! (addr ! (from ! (fld ! refl (hop ! (look-in ! 34 (sub ! 0 refl (whole !))) (stop !))))) (from ! (stop !)) (init ! 10 refl (tt, tt)) $
         assigns ! (agg ! (and-then ! (load ! (from ! (stop !)) (look ! 10 refl)) (and-then ! (load ! (from ! (fld ! refl (stop !))) (look-in ! 34 (sub ! 1 refl (whole !)))) (no-more !)))) (from ! (stop !)) (init ! 8 refl (tt, (tt, (record { fits = room₀ .0 }, tt)))) $
-        move ! (7 ∷ 6 ∷ []) $ use2 W (raw (Settle 𝓤 H A mem run .pre to-settle)) (goes-settle (subst (Is TakenR t) (taken-tells t _ is₂) is₂)) $
+        move ! (7 ∷ 6 ∷ []) $ use2 W (raw (Settle 𝓤 H A mem run .pre to-settle)) (goes-settle (subst (Is ServedR t) (served-tells t _ is₂) is₂)) $
         calls-at ! fm (Settle 𝓤 H A mem run) known-settle to-settle (and-then ! (load ! (from ! (stop !)) (look ! 35 refl)) (and-then ! (load ! (from ! (stop !)) (look ! 7 refl)) (and-then ! (load ! (from ! (stop !)) (look ! 23 refl)) (no-more !)))) (λ w₃.
         use1 W (later (some (λ (r : ℕ). ((‵ (flft κ₀ q₀) ⊛ ‵ ftrue) ⊛ ‵ (u32 .own r (w₃ ∷ []))) ⊛ raw (ensured 𝓤 H A settle.ended (settle.clauses 𝓤 H A mem run) (to-settle .0 .0) (to-settle .0 .3) tt r)))) (id⊢ 𝓤 _) $ await ! tt $ pick ! (λ r₃.
-        split ! $ move ! (1 ∷ []) $ use1 W (some (λ (us : Unit {0} × (List ℕ × (Unit {0} × Unit {0}))). ‵ (lasts settle.ended (κ₀, tt) (to-settle .0 .3) us) ⊛ raw (fact 𝓤 ((r₃ ≡ r) × (us .1 .0 ≡ settled h ws t))))) (id⊢ 𝓤 _) $ pick ! (λ us.
-        split ! $ move ! (1 ∷ []) $ heard ! ((r₃ ≡ r) × (us .1 .0 ≡ settled h ws t)) (λ e₃.
+        split ! $ move ! (1 ∷ []) $ use1 W (some (λ (us : Unit {0} × (List ℕ × (Unit {0} × Unit {0}))). ‵ (lasts settle.ended (κ₀, tt) (to-settle .0 .3) us) ⊛ raw (fact 𝓤 ((r₃ ≡ r) × (us .1 .0 ≡ settled h ws (handedBack t)))))) (id⊢ 𝓤 _) $ pick ! (λ us.
+        split ! $ move ! (1 ∷ []) $ heard ! ((r₃ ≡ r) × (us .1 .0 ≡ settled h ws (handedBack t))) (λ e₃.
         fsplit ! $ drop ! $ fsplit ! $ fsplit ! $ move ! (1 ∷ []) $ feqL ! (λ n₀. move ! (1 ∷ []) $ drop ! $
         move ! (1 ∷ []) $ split ! $ move ! (1 ∷ []) $ rewrite ! 0 (λ (x : ℕ). ‵ (u32 .own x (w₃ ∷ []))) (e₃ .0) refl $ facts ! u32 (Is u32) (shows 𝓤 H A u32) r (w₃ ∷ []) (λ is₃.
         land ! (from ! (stop !)) (init ! 38 refl (uint-lawful 𝓤 H A W w32 .typed r _ is₃ .0)) $ rewrite ! 38 (λ (u : Val). ‵ (fat fullShare (tyInt w32) l₀ 0 u)) (ap only (is₃ .0)) refl $
@@ -221,7 +222,7 @@ module _ {M : Type 1} (𝓤 : URA M) (H : Heap 𝓤) (A : Atoms 𝓤) (W : Given
   temelyak-serve-walks : (C : Calls 𝓤 H) (Λ : Loops 𝓤 H) → FmC 𝓤 H (W .laws) C
       → Triple 𝓤 (C #words·lent-ledger) (LentLedger 𝓤 H A mem run)
       → Triple 𝓤 (C #desk·serve) (Serve 𝓤 H A mem run)
-      → Triple 𝓤 (C #words·settle) (Settle 𝓤 H A mem run)
+      → Triple 𝓤 (C #bridge·settle-served) (Settle 𝓤 H A mem run)
       → Walks 𝓤 H A temelyak-serve.ended stayed (WpFn 𝓤 H C Λ code.function) (temelyak-serve.clauses 𝓤 H A mem run)
   temelyak-serve-walks C Λ fm known-lent-ledger known-serve known-settle =
       walked 𝓤 H A temelyak-serve.ended stayed (temelyak-serve.clauses 𝓤 H A mem run) (WpFn 𝓤 H C Λ code.function)
@@ -232,7 +233,7 @@ module _ {M : Type 1} (𝓤 : URA M) (H : Heap 𝓤) (A : Atoms 𝓤) (W : Given
 temelyak-serve-meets : {M : Type 1} (𝓤 : URA M) (H : Heap 𝓤) (A : Atoms 𝓤) (W : Given 𝓤 H A) (mem : Memory → SProp 𝓤) (run : Routine → Fun 𝓤) (𝓣 : Tables 𝓤 H)
     → Triple 𝓤 (𝓣 .C #words·lent-ledger) (LentLedger 𝓤 H A mem run)
     → Triple 𝓤 (𝓣 .C #desk·serve) (Serve 𝓤 H A mem run)
-    → Triple 𝓤 (𝓣 .C #words·settle) (Settle 𝓤 H A mem run)
+    → Triple 𝓤 (𝓣 .C #bridge·settle-served) (Settle 𝓤 H A mem run)
     → Meets 𝓤 H A temelyak-serve.signature (WpFn 𝓤 H (𝓣 .C) (𝓣 .Λ) code.function) (temelyak-serve.spec 𝓤 H A mem run)
 temelyak-serve-meets 𝓤 H A W mem run 𝓣 known-lent-ledger known-serve known-settle =
     walk-meets 𝓤 H A temelyak-serve.ended stayed W
@@ -248,4 +249,4 @@ temelyak-serve-spec 𝓤 H 𝓜 𝓖 𝓡 =
     (temelyak-serve-meets 𝓤 H (𝓖 .A) (givenOf 𝓤 H 𝓜 𝓖) (𝓜 .mem) (𝓡 .run) (tablesOf 𝓤 H 𝓜 (tables 𝓤 H 𝓜 𝓡 code.env))
     (cited 𝓤 H (LentLedger 𝓤 H (𝓖 .A) (𝓜 .mem) (𝓡 .run)) 𝓜 𝓡 code.env #words·lent-ledger lent-ledger-def.routine code.calls-words·lent-ledger (lent-ledger-thm.met 𝓤 H 𝓜 𝓖 𝓡))
     (cited 𝓤 H (Serve 𝓤 H (𝓖 .A) (𝓜 .mem) (𝓡 .run)) 𝓜 𝓡 code.env #desk·serve serve-def.routine code.calls-desk·serve (serve-thm.met 𝓤 H 𝓜 𝓖 𝓡))
-    (cited 𝓤 H (Settle 𝓤 H (𝓖 .A) (𝓜 .mem) (𝓡 .run)) 𝓜 𝓡 code.env #words·settle settle-def.routine code.calls-words·settle (settle-thm.met 𝓤 H 𝓜 𝓖 𝓡)))
+    (cited 𝓤 H (Settle 𝓤 H (𝓖 .A) (𝓜 .mem) (𝓡 .run)) 𝓜 𝓡 code.env #bridge·settle-served settle-def.routine code.calls-bridge·settle-served (settle-thm.met 𝓤 H 𝓜 𝓖 𝓡)))

@@ -10,21 +10,6 @@ use borrow.Author.Needs.{needs}
 use Rattle.bridge.proofs.temelyak_take.Statement.{statement}
 use Rattle.bridge.proofs.temelyak_take.Tie as tie
 
-lent-ledger-requires : tie.Need-lent-ledger-requires
-lent-ledger-requires c κs = search needs
-
-take-requires : tie.Need-take-requires
-take-requires c κs = search needs
-
-settle-requires : tie.Need-settle-requires
-settle-requires c κs = search needs
-
-same-length : tie.Need-same-length
-same-length c = search needs
-
-same-length-2 : tie.Need-same-length-2
-same-length-2 c = search needs
-
 returns : tie.Need-returns
 returns c =
     let a = c .before .before .before .before .before .before .before .before .before .before .before .before .before .args in
@@ -42,4 +27,5 @@ returns c =
 pub temelyak-take-spec : {M : Type 1} → statement M
 temelyak-take-spec =
     tie.close
-    (tie.spec lent-ledger-requires take-requires settle-requires same-length same-length-2 returns)
+    (tie.spec
+    (λ c κs. search needs) (λ c κs. search needs) (λ c κs. search needs) (λ c. search needs) (λ c. search needs) returns)

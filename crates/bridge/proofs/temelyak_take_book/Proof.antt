@@ -14,39 +14,12 @@ use borrow.Author.Needs.{needs}
 use Rattle.bridge.proofs.temelyak_take_book.Statement.{statement}
 use Rattle.bridge.proofs.temelyak_take_book.Tie as tie
 
-answer-by-requires : tie.Need-answer-by-requires
-answer-by-requires c κs = search needs
-
 returns : tie.Need-returns
 returns c =
     let a = c .before .before .before .before .before .before .args in
     let p = ne-eqb (length (a .out .now)) 2 (c .before .if1 .taken) in
     let left = book-left (a .header) (a .ledger .now) (a .map .now) (a .bytes .now) (a .out .now) p in
     (c .answer-by .ensures ∙ book-unpaired (a .header) (a .ledger .now) (a .map .now) (a .bytes .now) (a .out .now) p, left .0, left .1, left .2)
-
-lent-ledger-requires : tie.Need-lent-ledger-requires
-lent-ledger-requires c κs = search needs
-
-take-book-requires : tie.Need-take-book-requires
-take-book-requires c κs = search needs
-
-settle-requires : tie.Need-settle-requires
-settle-requires c κs = search needs
-
-flag-requires : tie.Need-flag-requires
-flag-requires c κs = search needs
-
-put-requires : tie.Need-put-requires
-put-requires c κs = search needs
-
-same-length : tie.Need-same-length
-same-length c = search needs
-
-same-length-2 : tie.Need-same-length-2
-same-length-2 c = search needs
-
-same-length-3 : tie.Need-same-length-3
-same-length-3 c = search needs
 
 returns-2 : tie.Need-returns-2
 returns-2 c =
@@ -75,14 +48,5 @@ pub temelyak-take-book-spec : {M : Type 1} → statement M
 temelyak-take-book-spec =
     tie.close
     (tie.spec
-    answer-by-requires
-    returns
-    lent-ledger-requires
-    take-book-requires
-    settle-requires
-    flag-requires
-    put-requires
-    same-length
-    same-length-2
-    same-length-3
-    returns-2)
+    (λ c κs. search needs) returns (λ c κs. search needs) (λ c κs. search needs) (λ c κs. search needs) (λ c κs. search needs)
+    (λ c κs. search needs) (λ c. search needs) (λ c. search needs) (λ c. search needs) returns-2)

@@ -21,20 +21,11 @@ returns c =
     let l = c .before .before .loop in
     summed-here (a .year) (a .month) (l .m) (l .days) (l .inv) (omega arith)
 
-days-in-requires : tie.Need-days-in-requires Inv-loop μ-loop
-days-in-requires c κs = search needs
-
 add-days : tie.Need-add-days Inv-loop μ-loop
 add-days c =
     let a = c .before .before .before .before .args in
     let l = c .before .before .before .loop in
     omega (arith, l .inv .few, c .days-in .ensures, days-at-most (a .year) (l .m))
-
-add-m : tie.Need-add-m Inv-loop μ-loop
-add-m c = search needs
-
-loop-less : tie.Need-loop-less Inv-loop μ-loop
-loop-less c = search needs
 
 loop-again : tie.Need-loop-again Inv-loop μ-loop
 loop-again c =
@@ -52,13 +43,4 @@ pub days-before-spec : {M : Type 1} → statement M
 days-before-spec =
     tie.close
     (tie.spec
-    Inv-loop
-    μ-loop
-    loop-holds
-    returns
-    days-in-requires
-    add-days
-    add-m
-    loop-less
-    loop-again
-    returns-2)
+    Inv-loop μ-loop loop-holds returns (λ c κs. search needs) add-days (λ c. search needs) (λ c. search needs) loop-again returns-2)

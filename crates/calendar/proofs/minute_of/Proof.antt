@@ -7,9 +7,6 @@ use Rattle.calendar.proofs.MonthLaws.{days-at-most, before-at-most, day
 use Rattle.calendar.proofs.minute_of.Statement.{statement}
 use Rattle.calendar.proofs.minute_of.Tie as tie
 
-days-in-requires : tie.Need-days-in-requires
-days-in-requires c κs = search needs
-
 returns : tie.Need-returns
 returns c =
     let a = c .before .before .before .args in
@@ -36,12 +33,6 @@ returns-4 c =
     let a = e1 .before .before .before .args in
     sym (minute-past (a .year) (a .date) (e1 .if1 .left) (rw (e1 .before .before .days-in .ensures) at (e2 .if2 .left)) (omega arith) (omega arith))
 
-days-before-requires : tie.Need-days-before-requires
-days-before-requires c κs = search needs
-
-sub-day : tie.Need-sub-day
-sub-day c = search needs
-
 add-day : tie.Need-add-day
 add-day c =
     let s = c .before in
@@ -59,9 +50,6 @@ mul-t6 c =
     let few : s .days-before .result ≤ 366 = rw (s .days-before .ensures) (before-at-most (a .year) (a .date .month)) in
     let month : e1 .before .before .days-in .result ≤ 31 = rw (e1 .before .before .days-in .ensures) (days-at-most (a .year) (a .date .month)) in
     omega arith
-
-mul-t7 : tie.Need-mul-t7
-mul-t7 c = search needs
 
 add-t8 : tie.Need-add-t8
 add-t8 c =
@@ -95,16 +83,5 @@ pub minute-of-spec : {M : Type 1} → statement M
 minute-of-spec =
     tie.close
     (tie.spec
-    days-in-requires
-    returns
-    returns-2
-    returns-3
-    returns-4
-    days-before-requires
-    sub-day
-    add-day
-    mul-t6
-    mul-t7
-    add-t8
-    add-t9
-    returns-5)
+    (λ c κs. search needs) returns returns-2 returns-3 returns-4 (λ c κs. search needs) (λ c. search needs) add-day mul-t6
+    (λ c. search needs) add-t8 add-t9 returns-5)

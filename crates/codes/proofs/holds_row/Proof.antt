@@ -5,15 +5,6 @@ use Rattle.codes.proofs.CodeLaws.{compliance-by-row}
 use Rattle.codes.proofs.holds_row.Statement.{statement}
 use Rattle.codes.proofs.holds_row.Tie as tie
 
-enum-told : tie.Need-enum-told
-enum-told c = search needs
-
-enum-told-2 : tie.Need-enum-told-2
-enum-told-2 c = search needs
-
-enum-told-3 : tie.Need-enum-told-3
-enum-told-3 c = search needs
-
 returns : tie.Need-returns
 unfolding rowHeld
 returns c = rw (c .enum-told .given .1)
@@ -27,4 +18,6 @@ unfolding rowHeld
 returns-3 c = rw (c .enum-told3 .given .1)
 
 pub holds-row-spec : {M : Type 1} → statement M
-holds-row-spec = tie.close (tie.spec enum-told enum-told-2 enum-told-3 returns returns-2 returns-3)
+holds-row-spec = tie.close
+    (tie.spec
+    (λ c. search needs) (λ c. search needs) (λ c. search needs) returns returns-2 returns-3)

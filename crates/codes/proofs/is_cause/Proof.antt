@@ -4,12 +4,11 @@ use borrow.Author.Needs.{needs}
 use Rattle.codes.proofs.is_cause.Statement.{statement}
 use Rattle.codes.proofs.is_cause.Tie as tie
 
-in-table-requires : tie.Need-in-table-requires
-in-table-requires c κs = search needs
-
 returns : tie.Need-returns
 unfolding causes causeListed
 returns c = rw (c .in-table .ensures)
 
 pub is-cause-spec : {M : Type 1} → statement M
-is-cause-spec = tie.close (tie.spec in-table-requires returns)
+is-cause-spec = tie.close
+    (tie.spec
+    (λ c κs. search needs) returns)

@@ -7,9 +7,6 @@ use Rattle.decimal.proofs.DivisionLaws.{split-under, split-full}
 use Rattle.decimal.proofs.carried.Statement.{statement}
 use Rattle.decimal.proofs.carried.Tie as tie
 
-add-t5 : tie.Need-add-t5
-add-t5 c = search needs
-
 returns : tie.Need-returns
 returns c =
     let a = c .before .args in
@@ -22,4 +19,6 @@ returns-2 c =
     sym (split-under (a .whole) (a .power) (a .digits) h)
 
 pub carried-spec : {M : Type 1} → statement M
-carried-spec = tie.close (tie.spec add-t5 returns returns-2)
+carried-spec = tie.close
+    (tie.spec
+    (λ c. search needs) returns returns-2)

@@ -19,20 +19,8 @@ returns-2 c =
     let a = c .before .before .args in
     sym (too-many-18 (a .f) (a .digits) (c .before .if1 .left) (c .if2 .taken))
 
-div-whole : tie.Need-div-whole
-div-whole c = search needs
-
-rem-divide : tie.Need-rem-divide
-rem-divide c = search needs
-
 divide-requires : tie.Need-divide-requires
 divide-requires c κs = (mod-lt (c .before .before .before .before .args .f .top) (omega arith), search needs)
-
-sub-if3 : tie.Need-sub-if3
-sub-if3 c = search needs
-
-add-carried : tie.Need-add-carried
-add-carried c = search needs
 
 carried-requires : tie.Need-carried-requires
 carried-requires c κs =
@@ -61,13 +49,5 @@ pub decimal-of-spec : {M : Type 1} → statement M
 decimal-of-spec =
     tie.close
     (tie.spec
-    returns
-    returns-2
-    div-whole
-    rem-divide
-    divide-requires
-    sub-if3
-    add-carried
-    carried-requires
-    returns-3
-    returns-4)
+    returns returns-2 (λ c. search needs) (λ c. search needs) divide-requires (λ c. search needs) (λ c. search needs) carried-requires
+    returns-3 returns-4)

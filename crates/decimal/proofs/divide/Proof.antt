@@ -36,12 +36,6 @@ mul-t9 c = omega (arith, small (c .before .before .before))
 add-t10 : tie.Need-add-t10 Inv-loop μ-loop
 add-t10 c = omega (arith, small (c .before .before .before .before), c .before .before .before .tenfold .ensures .digit)
 
-add-k : tie.Need-add-k Inv-loop μ-loop
-add-k c = search needs
-
-loop-less : tie.Need-loop-less Inv-loop μ-loop
-loop-less c = search needs
-
 loop-again : tie.Need-loop-again Inv-loop μ-loop
 loop-again c =
     let a = c .before .before .before .before .before .before .args in
@@ -58,14 +52,4 @@ pub divide-spec : {M : Type 1} → statement M
 divide-spec =
     tie.close
     (tie.spec
-    Inv-loop
-    μ-loop
-    loop-holds
-    tenfold-requires
-    mul-t8
-    mul-t9
-    add-t10
-    add-k
-    loop-less
-    loop-again
-    returns)
+    Inv-loop μ-loop loop-holds tenfold-requires mul-t8 mul-t9 add-t10 (λ c. search needs) (λ c. search needs) loop-again returns)

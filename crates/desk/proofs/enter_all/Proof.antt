@@ -53,7 +53,7 @@ use denote.Triple.Table.{entered, cited}
 use Rattle.slot.specs.declared.Slot.{Slot}
 use Rattle.slot.specs.Slot.{freeSlot}
 use Rattle.roll.specs.declared.Roll.{Roll}
-use Rattle.roll.specs.Roll.{rollBy, rolledSlot, rolled}
+use Rattle.roll.specs.Inside.{rollBy, rolledSlot, rolled}
 use Rattle.roll.proofs.enter as enter-slot
 use Rattle.roll.proofs.enter.Symbol as enter-slot-def
 use Rattle.roll.proofs.enter.Symbol.{name as #roll·enter}

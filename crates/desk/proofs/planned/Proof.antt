@@ -51,10 +51,10 @@ use Rattle.slot.specs.Slot.{freeSlot}
 use Rattle.slot.proofs.Slot as TSlot
 use Rattle.slot.proofs.Slot.Laws as TSlot′
 use Rattle.roll.specs.declared.Roll.{Roll}
-use Rattle.roll.specs.Roll.{rollBy, rollOf, placeNamed}
+use Rattle.roll.specs.Inside.{rollBy, rollOf, placeNamed}
 use Rattle.roll.proofs.Roll.Laws as TRoll′
 use Rattle.plan.specs.declared.Plan.{Plan}
-use Rattle.plan.specs.Plan.{planBy}
+use Rattle.plan.specs.Inside.{planBy}
 use Rattle.plan.proofs.Plan.Laws as TPlan′
 use Rattle.plan.proofs.ServeLaws.{plan-is}
 use Rattle.desk.proofs.ArrayLend.{cell-in, cell-out, lends-whole, whole-back}

@@ -1,4 +1,4 @@
--- `desk::serve` meets its contract: a walk of its MIR, by hand, of a branch and four calls in a row. A desk of another length is left as it is (`other-taken`, `other-map`, `other-desk`). All that it knows of the callees is that each meets its contract; what they come to is `plan-taken`, `plan-map` and `plan-desk`.
+-- `desk::serve` meets its contract: a walk of its MIR, by hand, of a branch and four calls in a row. A desk of another length is left as it is (`other-served`, `other-map`, `other-desk`). All that it knows of the callees is that each meets its contract; what they come to is `plan-served`, `plan-map` and `plan-desk`.
 -- For `planned` the desk and the map are lent as `&`, each for a lifetime that the walk makes. To `slot_put` and `mark` the two slices go for good, each at its own lifetime, share and ghost name (`gave-slice`). The message is Copy.
 -- Assumes nothing.
 use mathlib.Core.Path.{_≡_, refl, sym, _∙_, ap, subst}
@@ -44,9 +44,9 @@ use denote.Triple.Clauses.{ensured, lasts}
 use denote.Triple.Table.{entered, cited}
 use Rattle.marks.specs.Marks.{markedWith}
 use Rattle.ledger.specs.declared.Ledger.{Ledger}
-use Rattle.ledger.specs.declared.Taken.{Taken}
-use Rattle.ledger.proofs.Taken as TTaken
-use Rattle.ledger.proofs.Taken.Laws as TTaken′
+use Rattle.plan.specs.declared.Served.{Served}
+use Rattle.plan.proofs.Served as TServed
+use Rattle.plan.proofs.Served.Laws as TServed′
 use Rattle.slot.specs.declared.Slot.{Slot}
 use Rattle.slot.proofs.Slot.Laws as TSlot′
 use Rattle.roll.specs.Desk.{slotCount}
@@ -56,10 +56,10 @@ use Rattle.plan.specs.Plan.{planOf}
 use Rattle.plan.specs.Serve.{servedOf, mapServed, deskServed}
 use Rattle.plan.proofs.Plan as TPlan
 use Rattle.plan.proofs.Plan.Laws as TPlan′
-use Rattle.plan.proofs.ServeLaws.{plan-taken, plan-map, plan-desk, other-taken, other-map, other-desk}
+use Rattle.plan.proofs.ServeLaws.{plan-served, plan-map, plan-desk, other-served, other-map, other-desk}
 use Rattle.desk.proofs.SlotLaws.{R, vals, ty-at, slot-makes}
 use Rattle.desk.proofs.Shared.{LentOut, lends-out, out-back, unused}
-use Rattle.desk.proofs.Rows.{LedgerR, TakenR, PlanR, ledger-mach, ledger-vals, ledger-tells, ledger-makes, ledger-typed, taken-mach, taken-vals, taken-tells, taken-makes, taken-typed, plan-vals, plan-tells, plan-makes, plan-typed}
+use Rattle.desk.proofs.Rows.{LedgerR, ServedR, PlanR, ledger-mach, ledger-vals, ledger-tells, ledger-makes, ledger-typed, served-mach, served-vals, served-tells, served-makes, served-typed, plan-vals, plan-tells, plan-makes, plan-typed}
 use Rattle.desk.proofs.planned as planned
 use Rattle.desk.proofs.planned.Symbol as planned-def
 use Rattle.desk.proofs.planned.Symbol.{name as #desk·planned}
@@ -72,10 +72,10 @@ use Rattle.marks.proofs.mark as mark
 use Rattle.marks.proofs.mark.Symbol as mark-def
 use Rattle.marks.proofs.mark.Symbol.{name as #marks·mark}
 use Rattle.marks.proofs.mark.Met as mark-thm
-use Rattle.plan.proofs.taken_by as taken-by
-use Rattle.plan.proofs.taken_by.Symbol as taken-by-def
-use Rattle.plan.proofs.taken_by.Symbol.{name as #plan·taken-by}
-use Rattle.plan.proofs.taken_by.Met as taken-by-thm
+use Rattle.plan.proofs.served_by as served-by
+use Rattle.plan.proofs.served_by.Symbol as served-by-def
+use Rattle.plan.proofs.served_by.Symbol.{name as #plan·served-by}
+use Rattle.plan.proofs.served_by.Met as served-by-thm
 use Rattle.desk.proofs.serve.Key.{name as #desk·serve}
 use Rattle.desk.proofs.serve as serve
 use Rattle.desk.proofs.serve.Statement as stated
@@ -87,7 +87,7 @@ stayed = (stay-none (λ _. LedgerR) yes, (gave-slice (0 ∷ []) tt (plain (λ _.
 
 -- the types of a plan's fields
 abbrev parts : Tys
-parts = tcons TTaken′.mir (tcons (tyInt w64) (tcons TSlot′.mir (tcons (tyInt w16) tnil)))
+parts = tcons TServed′.mir (tcons (tyInt w64) (tcons TSlot′.mir (tcons (tyInt w16) tnil)))
 
 module _ {M : Type 1} (𝓤 : URA M) (H : Heap 𝓤) (A : Atoms 𝓤) (mem : Memory → SProp 𝓤) (run : Routine → Fun 𝓤) where
   -- the contracts that the proof cites
@@ -100,15 +100,15 @@ module _ {M : Type 1} (𝓤 : URA M) (H : Heap 𝓤) (A : Atoms 𝓤) (mem : Mem
   abbrev Mark : Contract 𝓤
   Mark = tripleOf 𝓤 H A mark.signature (mark.spec 𝓤 H A mem run)
 
-  abbrev TakenBy : Contract 𝓤
-  TakenBy = tripleOf 𝓤 H A taken-by.signature (taken-by.spec 𝓤 H A mem run)
+  abbrev ServedBy : Contract 𝓤
+  ServedBy = tripleOf 𝓤 H A served-by.signature (served-by.spec 𝓤 H A mem run)
 
-  -- of the `ensured` of `planned` and `taken_by`, the clause alone
+  -- of the `ensured` of `planned` and `served_by`, the clause alone
   planned-said : (κ κ′ κ″ : Lft) (d : RefT (List Slot)) (l : Ledger) (m s : RefT (List ℕ)) (r : Plan) → ent 𝓤 (ensured 𝓤 H A planned.ended (planned.clauses 𝓤 H A mem run) (κ, (κ′, (κ″, tt))) (d, (l, (m, (s, tt)))) tt r) (fact 𝓤 (r ≡ planOf (lookAt (d .now) (s .now)) (length (d .now)) l (m .now) (s .now)))
   planned-said κ κ′ κ″ d l m s r = exE 𝓤 _ (λ ws. snd∗ 𝓤 (sem 𝓤 H A (lasts planned.ended (κ, (κ′, (κ″, tt))) (d, (l, (m, (s, tt)))) ws)) (fact 𝓤 (r ≡ planOf (lookAt (d .now) (s .now)) (length (d .now)) l (m .now) (s .now))))
 
-  taken-said : (p : Plan) (r : Taken) → ent 𝓤 (ensured 𝓤 H A taken-by.ended (taken-by.clauses 𝓤 H A mem run) tt (p, tt) tt r) (fact 𝓤 (r ≡ p .taken))
-  taken-said p r = exE 𝓤 _ (λ ws. snd∗ 𝓤 (sem 𝓤 H A (lasts taken-by.ended tt (p, tt) ws)) (fact 𝓤 (r ≡ p .taken)))
+  served-said : (p : Plan) (r : Served) → ent 𝓤 (ensured 𝓤 H A served-by.ended (served-by.clauses 𝓤 H A mem run) tt (p, tt) tt r) (fact 𝓤 (r ≡ p .served))
+  served-said p r = exE 𝓤 _ (λ ws. snd∗ 𝓤 (sem 𝓤 H A (lasts served-by.ended tt (p, tt) ws)) (fact 𝓤 (r ≡ p .served)))
 
 module _ {M : Type 1} (𝓤 : URA M) (H : Heap 𝓤) (A : Atoms 𝓤) (W : Given 𝓤 H A) (mem : Memory → SProp 𝓤) (run : Routine → Fun 𝓤) (κ₀ κ₁ κ₂ : Lft) (q₀ q₁ q₂ : Share) (l : Ledger)
     (b₀ c₀ : ℕ) (γ₀ : GName) (bs : List ℕ) (b₁ c₁ : ℕ) (γ₁ : GName) (ys : List Slot) (s : RefT (List ℕ))
@@ -155,20 +155,20 @@ module _ {M : Type 1} (𝓤 : URA M) (H : Heap 𝓤) (A : Atoms 𝓤) (W : Given
   abbrev Post : Val → SProp 𝓤
   Post = walkOf 𝓤 H A serve.ended stayed (serve.clauses 𝓤 H A mem run) .post (((κ₀, (κ₁, (κ₂, tt))), (q₀, (q₁, (q₂, tt))), tt, a, at), tt)
 
-  exits : (r : Taken) (cs : List ℕ) (zs : List Slot) → r ≡ servedOf l bs ys (s .now) → cs ≡ mapServed l bs ys (s .now) → zs ≡ deskServed l bs ys (s .now) → length cs ≡ length bs → length zs ≡ length ys → Is TakenR r (taken-vals r)
-      → ent 𝓤 (⋆ 𝓤 H A (‵ (flft κ₀ q₀) ∷ ‵ (flft κ₁ q₁) ∷ ‵ (flft κ₂ q₂) ∷ ‵ (finally u8 γ₀ cs) ∷ ‵ (finally R γ₁ zs) ∷ ‵ Own₂ ∷ [])) (Post (taken-mach r))
+  exits : (r : Served) (cs : List ℕ) (zs : List Slot) → r ≡ servedOf l bs ys (s .now) → cs ≡ mapServed l bs ys (s .now) → zs ≡ deskServed l bs ys (s .now) → length cs ≡ length bs → length zs ≡ length ys → Is ServedR r (served-vals r)
+      → ent 𝓤 (⋆ 𝓤 H A (‵ (flft κ₀ q₀) ∷ ‵ (flft κ₁ q₁) ∷ ‵ (flft κ₂ q₂) ∷ ‵ (finally u8 γ₀ cs) ∷ ‵ (finally R γ₁ zs) ∷ ‵ Own₂ ∷ [])) (Post (served-mach r))
   exits r cs zs e e₀ e₁ n₀ n₁ g =
       qed W (‵ (flft κ₀ q₀) ∷ ‵ (flft κ₁ q₁) ∷ ‵ (flft κ₂ q₂) ∷ ‵ (finally u8 γ₀ cs) ∷ ‵ (finally R γ₁ zs) ∷ ‵ Own₂ ∷ []) ∵
-      suffices ! _ (ends-at 𝓤 H A serve.ended stayed (serve.clauses 𝓤 H A mem run) W (((κ₀, (κ₁, (κ₂, tt))), (q₀, (q₁, (q₂, tt))), tt, a, at), tt) (taken-mach r) r (tt, (cs, (zs, (tt, tt)))) (tt, (n₀, (n₁, (tt, tt))))) $
+      suffices ! _ (ends-at 𝓤 H A serve.ended stayed (serve.clauses 𝓤 H A mem run) W (((κ₀, (κ₁, (κ₂, tt))), (q₀, (q₁, (q₂, tt))), tt, a, at), tt) (served-mach r) r (tt, (cs, (zs, (tt, tt)))) (tt, (n₀, (n₁, (tt, tt))))) $
       says ! (e, e₀, e₁) $
-      nothing ! $ move ! (3 ∷ 0 ∷ []) $ join ! $ move ! (2 ∷ 0 ∷ []) $ join ! $ move ! (1 ∷ 0 ∷ []) $ join ! $ frame ! $ nothing ! $ move ! (3 ∷ 0 ∷ []) $ fjoin ! $ move ! (2 ∷ 0 ∷ []) $ fjoin ! $ move ! (1 ∷ 0 ∷ []) $ fjoin ! $ owned ! LedgerR (Is LedgerR) (ledger-makes 𝓤 H A W) l _ gl $ fjoin ! $ frame ! $ owned ! TakenR (Is TakenR) (taken-makes 𝓤 H A W) r _ g $ done !
+      nothing ! $ move ! (3 ∷ 0 ∷ []) $ join ! $ move ! (2 ∷ 0 ∷ []) $ join ! $ move ! (1 ∷ 0 ∷ []) $ join ! $ frame ! $ nothing ! $ move ! (3 ∷ 0 ∷ []) $ fjoin ! $ move ! (2 ∷ 0 ∷ []) $ fjoin ! $ move ! (1 ∷ 0 ∷ []) $ fjoin ! $ owned ! LedgerR (Is LedgerR) (ledger-makes 𝓤 H A W) l _ gl $ fjoin ! $ frame ! $ owned ! ServedR (Is ServedR) (served-makes 𝓤 H A W) r _ g $ done !
 
   -- what a desk of another length is answered
-  abbrev refusal : Taken
+  abbrev refusal : Served
   refusal = record { answer = 1; ledger = l }
 
-  refusal-is : Is TakenR refusal (taken-vals refusal)
-  refusal-is = LL.owes TTaken.the-type TTaken′.the-laws refusal ((refl, lit< tt), (gl, tt))
+  refusal-is : Is ServedR refusal (served-vals refusal)
+  refusal-is = LL.owes TServed.the-type TServed′.the-laws refusal ((refl, lit< tt), (gl, tt))
 
   not-slots : T (not (eqb (length ys) slotCount)) → length ys ≢ slotCount
   not-slots other e = subst (λ (n : ℕ). T (not (eqb n slotCount))) e other
@@ -195,11 +195,11 @@ module _ {M : Type 1} (𝓤 : URA M) (H : Heap 𝓤) (A : Atoms 𝓤) (W : Given
   goes-mark fits =
       qed W (‵ (flft κ₀ q₀) ∷ ‵ Own₀ ∷ []) ∵ nothing ! $ move ! (1 ∷ 0 ∷ []) $ join ! $ nothing ! $ owned ! u16 (Is u16) (uint-makes 𝓤 H A W w16) (p .number) _ (refl, fits) $ fjoin ! $ move ! (2 ∷ 0 ∷ []) $ fjoin ! $ move ! (1 ∷ 0 ∷ []) $ join ! $ frame ! $ done !
 
-  abbrev to-taken-by : TakenBy 𝓤 H A mem run .Ghost
-  to-taken-by = ((tt, tt, tt, (p, tt), (plan-vals p, tt)), tt)
+  abbrev to-served-by : ServedBy 𝓤 H A mem run .Ghost
+  to-served-by = ((tt, tt, tt, (p, tt), (plan-vals p, tt)), tt)
 
-  goes-taken-by : Is PlanR p (plan-vals p) → ent 𝓤 (⋆ 𝓤 H A []) (TakenBy 𝓤 H A mem run .pre to-taken-by)
-  goes-taken-by g =
+  goes-served-by : Is PlanR p (plan-vals p) → ent 𝓤 (⋆ 𝓤 H A []) (ServedBy 𝓤 H A mem run .pre to-served-by)
+  goes-served-by g =
       qed W [] ∵ nothing ! $ nothing ! $ owned ! PlanR (Is PlanR) (plan-makes 𝓤 H A W) p _ g $ fjoin ! $ move ! (1 ∷ 0 ∷ []) $ join ! $ frame ! $ done !
 
   -- the locals
@@ -207,7 +207,7 @@ module _ {M : Type 1} (𝓤 : URA M) (H : Heap 𝓤) (A : Atoms 𝓤) (W : Given
   E l₀ l₁ l₂ l₃ l₄ l₅ l₆ l₇ l₈ l₉ l₁₀ l₁₁ l₁₂ l₁₃ l₁₄ l₁₅ l₁₆ =
       (ty-at 0 body.locals, l₀) ∷ (ty-at 1 body.locals, l₁) ∷ (ty-at 2 body.locals, l₂) ∷ (ty-at 3 body.locals, l₃) ∷ (ty-at 4 body.locals, l₄) ∷ (ty-at 5 body.locals, l₅) ∷ (ty-at 6 body.locals, l₆) ∷ (ty-at 7 body.locals, l₇) ∷ (ty-at 8 body.locals, l₈) ∷ (ty-at 9 body.locals, l₉) ∷ (ty-at 10 body.locals, l₁₀) ∷ (ty-at 11 body.locals, l₁₁) ∷ (ty-at 12 body.locals, l₁₂) ∷ (ty-at 13 body.locals, l₁₃) ∷ (ty-at 14 body.locals, l₁₄) ∷ (ty-at 15 body.locals, l₁₅) ∷ (ty-at 16 body.locals, l₁₆) ∷ []
 
-  module _ (C : Calls 𝓤 H) (Λ : Loops 𝓤 H) (fm : FmC 𝓤 H (W .laws) C) (known-planned : Triple 𝓤 (C #desk·planned) (Planned 𝓤 H A mem run)) (known-slot-put : Triple 𝓤 (C #desk·slot-put) (SlotPut 𝓤 H A mem run)) (known-mark : Triple 𝓤 (C #marks·mark) (Mark 𝓤 H A mem run)) (known-taken-by : Triple 𝓤 (C #plan·taken-by) (TakenBy 𝓤 H A mem run)) where
+  module _ (C : Calls 𝓤 H) (Λ : Loops 𝓤 H) (fm : FmC 𝓤 H (W .laws) C) (known-planned : Triple 𝓤 (C #desk·planned) (Planned 𝓤 H A mem run)) (known-slot-put : Triple 𝓤 (C #desk·slot-put) (SlotPut 𝓤 H A mem run)) (known-mark : Triple 𝓤 (C #marks·mark) (Mark 𝓤 H A mem run)) (known-served-by : Triple 𝓤 (C #plan·served-by) (ServedBy 𝓤 H A mem run)) where
     walk : ent 𝓤 (onEntry 𝓤 H A serve.signature (κ₀, (κ₁, (κ₂, tt))) (q₀, (q₁, (q₂, tt))) a at) (WpFn 𝓤 H C Λ code.function (ledger-mach l ∷ v₀ ∷ v₁ ∷ v₂ ∷ []) Post)
     walk =
         qed W ((‵ (flft κ₀ q₀) ⊛ ‵ (flft κ₁ q₁) ⊛ ‵ (flft κ₂ q₂) ⊛ ‵ ftrue) ∷ ‵ (owns (LedgerR ∷ MutSlice (named 0) κ₀ u8 ∷ MutSlice (named 1) κ₁ R ∷ ShrSlice (named 2) κ₂ u8 ∷ []) a at) ∷ []) ∵
@@ -221,11 +221,11 @@ module _ {M : Type 1} (𝓤 : URA M) (H : Heap 𝓤) (A : Atoms 𝓤) (W : Given
         first ! $ branches ! (load ! (from ! (stop !)) (look ! 24 refl))
         -- another length: nothing is done
         (λ other. let differs = not-slots other in
-        assigns ! (agg ! (and-then ! (lit ! tt) (and-then ! (load ! (from ! (stop !)) (look ! 36 refl)) (no-more !)))) (from ! (stop !)) (init ! 38 refl (taken-typed 𝓤 H A W refusal _ refusal-is)) $
+        assigns ! (agg ! (and-then ! (lit ! tt) (and-then ! (load ! (from ! (stop !)) (look ! 36 refl)) (no-more !)))) (from ! (stop !)) (init ! 38 refl (served-typed 𝓤 H A W refusal _ refusal-is)) $
         returns-within ! Post refl (look ! 38 refl) $ forget ! 24 refl $ forget ! 26 refl $ forget ! 30 refl $ forget ! 32 refl $ forget ! 34 refl $ forget ! 36 refl $ forget ! 38 refl $
         move ! (38 ∷ 39 ∷ []) $ free1 ! $ move ! (36 ∷ 37 ∷ []) $ free1 ! $ move ! (34 ∷ 35 ∷ []) $ free1 ! $ move ! (32 ∷ 33 ∷ []) $ free1 ! $ move ! (30 ∷ 31 ∷ []) $ free1 ! $ move ! (28 ∷ 29 ∷ []) $ free1 ! $ move ! (26 ∷ 27 ∷ []) $ free1 ! $ move ! (24 ∷ 25 ∷ []) $ free1 ! $ move ! (22 ∷ 23 ∷ []) $ free1 ! $ move ! (20 ∷ 21 ∷ []) $ free1 ! $ move ! (18 ∷ 19 ∷ []) $ free1 ! $ move ! (16 ∷ 17 ∷ []) $ free1 ! $ move ! (14 ∷ 15 ∷ []) $ free1 ! $ move ! (12 ∷ 13 ∷ []) $ free1 ! $ move ! (10 ∷ 11 ∷ []) $ free1 ! $ move ! (8 ∷ 9 ∷ []) $ free1 ! $ move ! (6 ∷ 7 ∷ []) $ free1 ! $ free0 ! $
         move ! (3 ∷ []) $ use1 W (‵ (finally u8 γ₀ bs)) (unused 𝓤 H A W (named 0) κ₀ u8 (m γ₀) (v₀ ∷ [])) $ move ! (4 ∷ []) $ use1 W (‵ (finally R γ₁ ys)) (unused 𝓤 H A W (named 1) κ₁ R (d γ₁) (v₁ ∷ [])) $ move ! (2 ∷ 3 ∷ 4 ∷ 1 ∷ 0 ∷ []) $
-        by ! (exits refusal bs ys (sym (other-taken l bs ys (s .now) differs)) (sym (other-map l bs ys (s .now) differs)) (sym (other-desk l bs ys (s .now) differs)) refl refl refusal-is))
+        by ! (exits refusal bs ys (sym (other-served l bs ys (s .now) differs)) (sym (other-map l bs ys (s .now) differs)) (sym (other-desk l bs ys (s .now) differs)) refl refl refusal-is))
         (λ same. skips ! $ exec ! C Λ (E l₀ l₁ l₂ l₃ l₄ l₅ l₆ l₇ l₈ l₉ l₁₀ l₁₁ l₁₂ l₁₃ l₁₄ l₁₅ l₁₆) body.t-4 (atRet (E l₀ l₁ l₂ l₃ l₄ l₅ l₆ l₇ l₈ l₉ l₁₀ l₁₁ l₁₂ l₁₃ l₁₄ l₁₅ l₁₆) Post) $
         -- `planned`: desk and map are lent as `&` for lifetimes ν₁ and ν₀ of the call
         assigns ! (addr ! (from ! (fld ! refl (hop ! (look-in ! 32 (sub ! 0 refl (whole !))) (stop !))))) (from ! (stop !)) (init ! 22 refl (tt, tt)) $
@@ -262,40 +262,40 @@ module _ {M : Type 1} (𝓤 : URA M) (H : Heap 𝓤) (A : Atoms 𝓤) (W : Given
         split ! $ move ! (1 ∷ []) $ use1 W (some (λ (zs : List ℕ × (Unit {0} × Unit {0})). ‵ (lasts mark.ended (κ₀, tt) (to-mark .0 .3) zs) ⊛ raw (fact 𝓤 (zs .0 ≡ markedWith bs (p .number))))) (id⊢ 𝓤 _) $ pick ! (λ zs₃.
         split ! $ move ! (1 ∷ []) $ heard ! (zs₃ .0 ≡ markedWith bs (p .number)) (λ e₃. fsplit ! $ fsplit ! $ move ! (1 ∷ []) $ feqL ! (λ n₃. move ! (1 ∷ []) $ drop ! $ move ! (1 ∷ []) $ split ! $ split ! $ move ! (1 ∷ []) $ drop ! $ move ! (1 ∷ []) $ feqL ! (λ u₃.
         land ! (from ! (stop !)) (store ! 14 refl (subst (λ (u : Val). T (hasTy tyUnit u) × WT u) (sym (ap only u₃)) (tt, tt))) $
-        -- `plan::taken_by`
-        use0 W (raw (TakenBy 𝓤 H A mem run .pre to-taken-by)) (goes-taken-by (subst (Is PlanR p) (plan-tells p _ is₁) is₁)) $
-        calls-at ! fm (TakenBy 𝓤 H A mem run) known-taken-by to-taken-by (and-then ! (load ! (from ! (stop !)) (look ! 29 refl)) (no-more !)) (λ w₄.
-        use1 W (later (some (λ (r : Taken). (‵ ftrue ⊛ ‵ (TakenR .own r (w₄ ∷ []))) ⊛ raw (ensured 𝓤 H A taken-by.ended (taken-by.clauses 𝓤 H A mem run) (to-taken-by .0 .0) (to-taken-by .0 .3) tt r)))) (id⊢ 𝓤 _) $ await ! tt $ pick ! (λ r₄.
-        split ! $ move ! (1 ∷ []) $ use1 W (raw (fact 𝓤 (r₄ ≡ p .taken))) (taken-said 𝓤 H A mem run p r₄) $ heard ! (r₄ ≡ p .taken) (λ e₄. split ! $ drop ! $ rewrite ! 0 (λ (r : Taken). ‵ (TakenR .own r (w₄ ∷ []))) e₄ refl $ facts ! TakenR (Is TakenR) (shows 𝓤 H A TakenR) (p .taken) (w₄ ∷ []) (λ is₄.
-        land ! (from ! (stop !)) (init ! 38 refl (taken-typed 𝓤 H A W (p .taken) _ is₄)) $ rewrite ! 38 (λ (u : Val). ‵ (fat fullShare TTaken′.mir l₀ 0 u)) (ap only (taken-tells (p .taken) _ is₄)) refl $
+        -- `plan::served_by`
+        use0 W (raw (ServedBy 𝓤 H A mem run .pre to-served-by)) (goes-served-by (subst (Is PlanR p) (plan-tells p _ is₁) is₁)) $
+        calls-at ! fm (ServedBy 𝓤 H A mem run) known-served-by to-served-by (and-then ! (load ! (from ! (stop !)) (look ! 29 refl)) (no-more !)) (λ w₄.
+        use1 W (later (some (λ (r : Served). (‵ ftrue ⊛ ‵ (ServedR .own r (w₄ ∷ []))) ⊛ raw (ensured 𝓤 H A served-by.ended (served-by.clauses 𝓤 H A mem run) (to-served-by .0 .0) (to-served-by .0 .3) tt r)))) (id⊢ 𝓤 _) $ await ! tt $ pick ! (λ r₄.
+        split ! $ move ! (1 ∷ []) $ use1 W (raw (fact 𝓤 (r₄ ≡ p .served))) (served-said 𝓤 H A mem run p r₄) $ heard ! (r₄ ≡ p .served) (λ e₄. split ! $ drop ! $ rewrite ! 0 (λ (r : Served). ‵ (ServedR .own r (w₄ ∷ []))) e₄ refl $ facts ! ServedR (Is ServedR) (shows 𝓤 H A ServedR) (p .served) (w₄ ∷ []) (λ is₄.
+        land ! (from ! (stop !)) (init ! 38 refl (served-typed 𝓤 H A W (p .served) _ is₄)) $ rewrite ! 38 (λ (u : Val). ‵ (fat fullShare TServed′.mir l₀ 0 u)) (ap only (served-tells (p .served) _ is₄)) refl $
         move ! (0 ∷ 2 ∷ 4 ∷ 1 ∷ 3 ∷ 5 ∷ []) $ returns ! (look ! 38 refl) $ forget ! 6 refl $ forget ! 8 refl $ forget ! 10 refl $ forget ! 12 refl $ forget ! 14 refl $ forget ! 16 refl $ forget ! 18 refl $ forget ! 20 refl $ forget ! 22 refl $ forget ! 24 refl $ forget ! 26 refl $ forget ! 28 refl $ forget ! 30 refl $ forget ! 32 refl $ forget ! 34 refl $ forget ! 36 refl $ forget ! 38 refl $
         move ! (38 ∷ 39 ∷ []) $ free1 ! $ move ! (36 ∷ 37 ∷ []) $ free1 ! $ move ! (34 ∷ 35 ∷ []) $ free1 ! $ move ! (32 ∷ 33 ∷ []) $ free1 ! $ move ! (30 ∷ 31 ∷ []) $ free1 ! $ move ! (28 ∷ 29 ∷ []) $ free1 ! $ move ! (26 ∷ 27 ∷ []) $ free1 ! $ move ! (24 ∷ 25 ∷ []) $ free1 ! $ move ! (22 ∷ 23 ∷ []) $ free1 ! $ move ! (20 ∷ 21 ∷ []) $ free1 ! $ move ! (18 ∷ 19 ∷ []) $ free1 ! $ move ! (16 ∷ 17 ∷ []) $ free1 ! $ move ! (14 ∷ 15 ∷ []) $ free1 ! $ move ! (12 ∷ 13 ∷ []) $ free1 ! $ move ! (10 ∷ 11 ∷ []) $ free1 ! $ move ! (8 ∷ 9 ∷ []) $ free1 ! $ move ! (6 ∷ 7 ∷ []) $ free1 ! $ free0 ! $
-        by ! (exits (p .taken) (zs₃ .0) (zs₂ .0) (plan-taken l bs ys (s .now)) (e₃ ∙ plan-map l bs ys (s .now)) (e₂ ∙ plan-desk l bs ys (s .now)) n₃ n₂ (subst (Is TakenR (p .taken)) (taken-tells (p .taken) _ is₄) is₄))))))))))))))))))))))))))))))))))))))))))))
+        by ! (exits (p .served) (zs₃ .0) (zs₂ .0) (plan-served l bs ys (s .now)) (e₃ ∙ plan-map l bs ys (s .now)) (e₂ ∙ plan-desk l bs ys (s .now)) n₃ n₂ (subst (Is ServedR (p .served)) (served-tells (p .served) _ is₄) is₄))))))))))))))))))))))))))))))))))))))))))))
 
 module _ {M : Type 1} (𝓤 : URA M) (H : Heap 𝓤) (A : Atoms 𝓤) (W : Given 𝓤 H A) (mem : Memory → SProp 𝓤) (run : Routine → Fun 𝓤) where
   serve-walks : (C : Calls 𝓤 H) (Λ : Loops 𝓤 H) → FmC 𝓤 H (W .laws) C
       → Triple 𝓤 (C #desk·planned) (Planned 𝓤 H A mem run)
       → Triple 𝓤 (C #desk·slot-put) (SlotPut 𝓤 H A mem run)
       → Triple 𝓤 (C #marks·mark) (Mark 𝓤 H A mem run)
-      → Triple 𝓤 (C #plan·taken-by) (TakenBy 𝓤 H A mem run)
+      → Triple 𝓤 (C #plan·served-by) (ServedBy 𝓤 H A mem run)
       → Walks 𝓤 H A serve.ended stayed (WpFn 𝓤 H C Λ code.function) (serve.clauses 𝓤 H A mem run)
-  serve-walks C Λ fm known-planned known-slot-put known-mark known-taken-by =
+  serve-walks C Λ fm known-planned known-slot-put known-mark known-served-by =
       walked 𝓤 H A serve.ended stayed (serve.clauses 𝓤 H A mem run) (WpFn 𝓤 H C Λ code.function)
       (λ κs. (ledger-vals, (slice-vals, (slice-vals, (slice-vals, tt)))))
       (λ κs. (ledger-tells, (mut-slice-tells (named 0) (κs .0) u8, (mut-slice-tells (named 1) (κs .1 .0) R, (shr-slice-tells (named 2) (κs .1 .1 .0) u8, tt)))))
-      (λ κs qs bounds a g are. via 𝓤 _ (fst∗ 𝓤 _ (emp 𝓤)) (walk 𝓤 H A W mem run (κs .0) (κs .1 .0) (κs .1 .1 .0) (qs .0) (qs .1 .0) (qs .1 .1 .0) (a .0) (a .1 .0 .ptr .0) (a .1 .0 .ptr .1) (a .1 .0 .name) (a .1 .0 .now) (a .1 .1 .0 .ptr .0) (a .1 .1 .0 .ptr .1) (a .1 .1 .0 .name) (a .1 .1 .0 .now) (a .1 .1 .1 .0) (are .0) (are .1 .0 .0 .1) (are .1 .1 .0 .0 .1) (are .1 .1 .1 .0 .0 .1) C Λ fm known-planned known-slot-put known-mark known-taken-by))
+      (λ κs qs bounds a g are. via 𝓤 _ (fst∗ 𝓤 _ (emp 𝓤)) (walk 𝓤 H A W mem run (κs .0) (κs .1 .0) (κs .1 .1 .0) (qs .0) (qs .1 .0) (qs .1 .1 .0) (a .0) (a .1 .0 .ptr .0) (a .1 .0 .ptr .1) (a .1 .0 .name) (a .1 .0 .now) (a .1 .1 .0 .ptr .0) (a .1 .1 .0 .ptr .1) (a .1 .1 .0 .name) (a .1 .1 .0 .now) (a .1 .1 .1 .0) (are .0) (are .1 .0 .0 .1) (are .1 .1 .0 .0 .1) (are .1 .1 .1 .0 .0 .1) C Λ fm known-planned known-slot-put known-mark known-served-by))
 
 serve-meets : {M : Type 1} (𝓤 : URA M) (H : Heap 𝓤) (A : Atoms 𝓤) (W : Given 𝓤 H A) (mem : Memory → SProp 𝓤) (run : Routine → Fun 𝓤) (𝓣 : Tables 𝓤 H)
     → Triple 𝓤 (𝓣 .C #desk·planned) (Planned 𝓤 H A mem run)
     → Triple 𝓤 (𝓣 .C #desk·slot-put) (SlotPut 𝓤 H A mem run)
     → Triple 𝓤 (𝓣 .C #marks·mark) (Mark 𝓤 H A mem run)
-    → Triple 𝓤 (𝓣 .C #plan·taken-by) (TakenBy 𝓤 H A mem run)
+    → Triple 𝓤 (𝓣 .C #plan·served-by) (ServedBy 𝓤 H A mem run)
     → Meets 𝓤 H A serve.signature (WpFn 𝓤 H (𝓣 .C) (𝓣 .Λ) code.function) (serve.spec 𝓤 H A mem run)
-serve-meets 𝓤 H A W mem run 𝓣 known-planned known-slot-put known-mark known-taken-by =
+serve-meets 𝓤 H A W mem run 𝓣 known-planned known-slot-put known-mark known-served-by =
     walk-meets 𝓤 H A serve.ended stayed W
     (goes-none 𝓤 H A W 3 (λ _. LedgerR) yes (λ κs x f. refl), (goes-gave-slice 𝓤 H A W 3 0 tt (plain (λ _. u8)), (goes-gave-slice 𝓤 H A W 3 1 tt (plain (λ _. R)), (goes-none-slice 𝓤 H A W 3 (2 ∷ []) tt (plain (λ _. u8)) yes, tt))))
     (serve.clauses 𝓤 H A mem run)
-    (WpFn 𝓤 H (𝓣 .C) (𝓣 .Λ) code.function) (WpFn-mono 𝓤 H (W .laws) 𝓣 code.function) (serve-walks 𝓤 H A W mem run (𝓣 .C) (𝓣 .Λ) (fmOf 𝓤 H (W .laws) 𝓣) known-planned known-slot-put known-mark known-taken-by)
+    (WpFn 𝓤 H (𝓣 .C) (𝓣 .Λ) code.function) (WpFn-mono 𝓤 H (W .laws) 𝓣 code.function) (serve-walks 𝓤 H A W mem run (𝓣 .C) (𝓣 .Λ) (fmOf 𝓤 H (W .laws) 𝓣) known-planned known-slot-put known-mark known-served-by)
 
 pub serve-spec : {M : Type 1} → stated.statement M
 unfolding code.routine tablesOf
@@ -306,4 +306,4 @@ serve-spec 𝓤 H 𝓜 𝓖 𝓡 =
     (cited 𝓤 H (Planned 𝓤 H (𝓖 .A) (𝓜 .mem) (𝓡 .run)) 𝓜 𝓡 code.env #desk·planned planned-def.routine code.calls-desk·planned (planned-thm.met 𝓤 H 𝓜 𝓖 𝓡))
     (cited 𝓤 H (SlotPut 𝓤 H (𝓖 .A) (𝓜 .mem) (𝓡 .run)) 𝓜 𝓡 code.env #desk·slot-put slot-put-def.routine code.calls-desk·slot-put (slot-put-thm.met 𝓤 H 𝓜 𝓖 𝓡))
     (cited 𝓤 H (Mark 𝓤 H (𝓖 .A) (𝓜 .mem) (𝓡 .run)) 𝓜 𝓡 code.env #marks·mark mark-def.routine code.calls-marks·mark (mark-thm.met 𝓤 H 𝓜 𝓖 𝓡))
-    (cited 𝓤 H (TakenBy 𝓤 H (𝓖 .A) (𝓜 .mem) (𝓡 .run)) 𝓜 𝓡 code.env #plan·taken-by taken-by-def.routine code.calls-plan·taken-by (taken-by-thm.met 𝓤 H 𝓜 𝓖 𝓡)))
+    (cited 𝓤 H (ServedBy 𝓤 H (𝓖 .A) (𝓜 .mem) (𝓡 .run)) 𝓜 𝓡 code.env #plan·served-by served-by-def.routine code.calls-plan·served-by (served-by-thm.met 𝓤 H 𝓜 𝓖 𝓡)))

@@ -6,12 +6,6 @@ use borrow.Author.Needs.{needs}
 use Rattle.elements.proofs.code_at.Statement.{statement}
 use Rattle.elements.proofs.code_at.Tie as tie
 
-mul-result : tie.Need-mul-result
-mul-result c = search needs
-
-array-read-result : tie.Need-array-read-result
-array-read-result c = search needs
-
 returns : tie.Need-returns
 unfolding codes codeAt
 returns c = refl
@@ -20,4 +14,6 @@ returns-2 : tie.Need-returns-2
 returns-2 c = sym (code-past (c .before .args .row) (c .if1 .left))
 
 pub code-at-spec : {M : Type 1} → statement M
-code-at-spec = tie.close (tie.spec mul-result array-read-result returns returns-2)
+code-at-spec = tie.close
+    (tie.spec
+    (λ c. search needs) (λ c. search needs) returns returns-2)

@@ -4,12 +4,11 @@ use borrow.Author.Needs.{needs}
 use Rattle.elements.proofs.is_element.Statement.{statement}
 use Rattle.elements.proofs.is_element.Tie as tie
 
-in-table-requires : tie.Need-in-table-requires
-in-table-requires c κs = search needs
-
 returns : tie.Need-returns
 unfolding codes elementListed
 returns c = c .in-table .ensures
 
 pub is-element-spec : {M : Type 1} → statement M
-is-element-spec = tie.close (tie.spec in-table-requires returns)
+is-element-spec = tie.close
+    (tie.spec
+    (λ c κs. search needs) returns)

@@ -4,12 +4,11 @@ use borrow.Author.Needs.{needs}
 use Rattle.elements.proofs.row_of.Statement.{statement}
 use Rattle.elements.proofs.row_of.Tie as tie
 
-place-in-requires : tie.Need-place-in-requires
-place-in-requires c κs = search needs
-
 returns : tie.Need-returns
 unfolding codes rowOf
 returns c = c .place-in .ensures
 
 pub row-of-spec : {M : Type 1} → statement M
-row-of-spec = tie.close (tie.spec place-in-requires returns)
+row-of-spec = tie.close
+    (tie.spec
+    (λ c κs. search needs) returns)

@@ -11,9 +11,6 @@ returns c =
     let a = c .before .args in
     sym (ended-other (a .answer) (a .at) (a .kind) (a .count) (a .values) (ne-eqb (a .answer) 255 (c .if1 .taken)))
 
-is-whole-requires : tie.Need-is-whole-requires
-is-whole-requires c κs = search needs
-
 returns-2 : tie.Need-returns-2
 returns-2 c =
     let a = c .before .before .before .args in
@@ -27,4 +24,6 @@ returns-3 c =
     sym (ended-whole (a .answer) (a .at) (a .kind) (a .count) (a .values) (eq-eqb (a .answer) 255 (c .before .before .if1 .left)) (sym (whole .ensures) ∙ not-false (whole .result) (c .if2 .left)))
 
 pub ended-spec : {M : Type 1} → statement M
-ended-spec = tie.close (tie.spec returns is-whole-requires returns-2 returns-3)
+ended-spec = tie.close
+    (tie.spec
+    returns (λ c κs. search needs) returns-2 returns-3)

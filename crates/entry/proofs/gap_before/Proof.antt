@@ -31,21 +31,6 @@ returns c =
     let a = c .before .before .args in
     sym (gap-plain (a .s .now) (a .kind) (a .k) (a .sep) (eq-eqb (a .sep) 0 (c .if1 .taken)))
 
-gaps-in-requires : tie.Need-gaps-in-requires
-gaps-in-requires c κs = search needs
-
-part-requires : tie.Need-part-requires
-part-requires c κs = search needs
-
-item-due-requires : tie.Need-item-due-requires
-item-due-requires c κs = search needs
-
-part-requires-2 : tie.Need-part-requires-2
-part-requires-2 c κs = search needs
-
-gap-said-requires : tie.Need-gap-said-requires
-gap-said-requires c κs = search needs
-
 returns-2 : tie.Need-returns-2
 returns-2 c =
     let a = c .before .before .before .before .before .before .before .args in
@@ -54,4 +39,6 @@ returns-2 c =
 
 pub gap-before-spec : {M : Type 1} → statement M
 gap-before-spec =
-    tie.close (tie.spec returns gaps-in-requires part-requires item-due-requires part-requires-2 gap-said-requires returns-2)
+    tie.close
+    (tie.spec
+    returns (λ c κs. search needs) (λ c κs. search needs) (λ c κs. search needs) (λ c κs. search needs) (λ c κs. search needs) returns-2)

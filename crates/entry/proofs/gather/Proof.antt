@@ -41,20 +41,11 @@ loop-holds c =
     let a = c .before .args in
     (search needs, search needs, going-starts (a .line .now) (a .start) (a .kind) (a .year) (a .sep))
 
-part-requires : tie.Need-part-requires Inv-loop μ-loop
-part-requires c κs = search needs
-
-next-cell-requires : tie.Need-next-cell-requires Inv-loop μ-loop
-next-cell-requires c κs = search needs
-
 add-at : tie.Need-add-at Inv-loop μ-loop
 add-at c =
     let a = c .before .before .before .before .before .before .args in
     let l = c .before .before .before .before .loop in
     omega (arith, going-short (a .line .now) (l .at) (a .kind) (l .k) (a .year) (a .sep) (l .values) (c .before .next-cell .result) (field (c .before)), l .inv .1)
-
-ended-requires : tie.Need-ended-requires Inv-loop μ-loop
-ended-requires c κs = search needs
 
 returns : tie.Need-returns Inv-loop μ-loop
 returns c =
@@ -66,18 +57,6 @@ returns c =
     (sym
     (l .inv .2 ∙ ap (λ (n : ℕ). goingOn n (a .line .now) (l .at) (a .kind) (l .k) (a .year) (a .sep) (l .values)) fuel ∙
     going-ends (a .line .now) (l .at) (a .kind) (l .k) (a .year) (a .sep) (l .values) f (field (c .before .before .before .before)) (261 - (l .k + 1)) (ne-eqb (f .answer) 0 (c .before .if1 .taken))))
-
-mul-values : tie.Need-mul-values Inv-loop μ-loop
-mul-values c = search needs
-
-array-write-values : tie.Need-array-write-values Inv-loop μ-loop
-array-write-values c = search needs
-
-add-k : tie.Need-add-k Inv-loop μ-loop
-add-k c = search needs
-
-loop-less : tie.Need-loop-less Inv-loop μ-loop
-loop-less c = search needs
 
 loop-again : tie.Need-loop-again Inv-loop μ-loop
 loop-again c =
@@ -91,20 +70,11 @@ loop-again c =
           going-on (a .line .now) (l .at) (a .kind) (l .k) (a .year) (a .sep) (l .values) f (field (c .before .before .before)) (261 - (l .k + 1)) (eq-eqb (f .answer) 0 (c .if1 .left)),
     )
 
-part-requires-2 : tie.Need-part-requires-2 Inv-loop μ-loop
-part-requires-2 c κs = search needs
-
-next-cell-requires-2 : tie.Need-next-cell-requires-2 Inv-loop μ-loop
-next-cell-requires-2 c κs = search needs
-
 add-ended : tie.Need-add-ended Inv-loop μ-loop
 add-ended c =
     let a = c .before .before .before .before .before .before .args in
     let l = c .before .before .before .before .loop in
     omega (arith, going-short (a .line .now) (l .at) (a .kind) (l .k) (a .year) (a .sep) (l .values) (c .before .next-cell2 .result) (last-field (c .before)), l .inv .1)
-
-ended-requires-2 : tie.Need-ended-requires-2 Inv-loop μ-loop
-ended-requires-2 c κs = search needs
 
 returns-2 : tie.Need-returns-2 Inv-loop μ-loop
 returns-2 c =
@@ -121,21 +91,6 @@ pub gather-spec : {M : Type 1} → statement M
 gather-spec =
     tie.close
     (tie.spec
-    Inv-loop
-    μ-loop
-    loop-holds
-    part-requires
-    next-cell-requires
-    add-at
-    ended-requires
-    returns
-    mul-values
-    array-write-values
-    add-k
-    loop-less
-    loop-again
-    part-requires-2
-    next-cell-requires-2
-    add-ended
-    ended-requires-2
-    returns-2)
+    Inv-loop μ-loop loop-holds (λ c κs. search needs) (λ c κs. search needs) add-at (λ c κs. search needs) returns (λ c. search needs)
+    (λ c. search needs) (λ c. search needs) (λ c. search needs) loop-again (λ c κs. search needs) (λ c κs. search needs) add-ended
+    (λ c κs. search needs) returns-2)

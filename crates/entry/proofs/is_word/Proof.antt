@@ -9,19 +9,10 @@ use Rattle.entry.proofs.EntryLaws.{no-word, word-parted}
 use Rattle.entry.proofs.is_word.Statement.{statement}
 use Rattle.entry.proofs.is_word.Tie as tie
 
-begins-with-requires : tie.Need-begins-with-requires
-begins-with-requires c κs = search needs
-
 returns : tie.Need-returns
 returns c =
     let a = c .before .before .before .before .args in
     no-word (a .s .now) (a .word .now) (sym (c .before .begins-with .ensures) ∙ not-true (c .before .begins-with .result) (c .if1 .taken))
-
-part-requires : tie.Need-part-requires
-part-requires c κs = search needs
-
-parted-here-requires : tie.Need-parted-here-requires
-parted-here-requires c κs = search needs
 
 returns-2 : tie.Need-returns-2
 returns-2 c =
@@ -32,4 +23,6 @@ returns-2 c =
 
 pub is-word-spec : {M : Type 1} → statement M
 is-word-spec =
-    tie.close (tie.spec begins-with-requires returns part-requires parted-here-requires returns-2)
+    tie.close
+    (tie.spec
+    (λ c κs. search needs) returns (λ c κs. search needs) (λ c κs. search needs) returns-2)

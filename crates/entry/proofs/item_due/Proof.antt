@@ -7,17 +7,11 @@ use Rattle.entry.specs.Entry.{itemDue}
 use Rattle.entry.proofs.item_due.Statement.{statement}
 use Rattle.entry.proofs.item_due.Tie as tie
 
-ends-here-requires : tie.Need-ends-here-requires
-ends-here-requires c κs = search needs
-
 returns : tie.Need-returns
 unfolding itemDue
 returns c =
     let ended = sym (c .before .ends-here .ensures) ∙ c .if1 .taken in
     rw (itemDue, ended)
-
-most-of-requires : tie.Need-most-of-requires
-most-of-requires c κs = search needs
 
 returns-2 : tie.Need-returns-2
 unfolding itemDue
@@ -26,4 +20,6 @@ returns-2 c =
     rw (itemDue, goes) (ap (ltb (c .before .before .before .before .args .k)) (c .most-of .ensures))
 
 pub item-due-spec : {M : Type 1} → statement M
-item-due-spec = tie.close (tie.spec ends-here-requires returns most-of-requires returns-2)
+item-due-spec = tie.close
+    (tie.spec
+    (λ c κs. search needs) returns (λ c κs. search needs) returns-2)

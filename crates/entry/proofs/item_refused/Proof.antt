@@ -20,30 +20,12 @@ word c =
     let g = c .before .before .gaps-in in
     c .word-of .ensures ∙ ap wordOf (c .before .part .ensures ∙ part-is-rest s (g .result) ∙ ap (λ (n : ℕ). drop n s) (g .ensures))
 
-gaps-in-requires : tie.Need-gaps-in-requires
-gaps-in-requires c κs = search needs
-
-part-requires : tie.Need-part-requires
-part-requires c κs = search needs
-
-word-of-requires : tie.Need-word-of-requires
-word-of-requires c κs = search needs
-
-separator-of-requires : tie.Need-separator-of-requires
-separator-of-requires c κs = search needs
-
 add-items-read : tie.Need-add-items-read
 add-items-read c =
     let s = c .before .before .before .before .before .before .args .line .now in
     let w : c .before .before .word-of .result .used ≡ wordOf (drop (gapsIn s) s) .used = ap (λ (r : Word). r .used) (word (c .before .before)) in
     let g : c .before .before .before .before .gaps-in .result ≡ gapsIn s = c .before .before .before .before .gaps-in .ensures in
     omega (arith, gaps-short s, word-short (drop (gapsIn s) s))
-
-items-read-requires : tie.Need-items-read-requires
-items-read-requires c κs = search needs
-
-item-of-requires : tie.Need-item-of-requires
-item-of-requires c κs = search needs
 
 returns : tie.Need-returns
 unfolding itemRefused
@@ -58,4 +40,6 @@ returns c =
 pub item-refused-spec : {M : Type 1} → statement M
 item-refused-spec =
     tie.close
-    (tie.spec gaps-in-requires part-requires word-of-requires separator-of-requires add-items-read items-read-requires item-of-requires returns)
+    (tie.spec
+    (λ c κs. search needs) (λ c κs. search needs) (λ c κs. search needs) (λ c κs. search needs) add-items-read (λ c κs. search needs)
+    (λ c κs. search needs) returns)

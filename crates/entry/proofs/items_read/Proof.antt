@@ -32,12 +32,6 @@ loop-holds : tie.Need-loop-holds Inv-loop μ-loop
 unfolding itemsRead
 loop-holds c = (search needs, search needs, omega arith)
 
-part-requires : tie.Need-part-requires Inv-loop μ-loop
-part-requires c κs = search needs
-
-next-cell-requires : tie.Need-next-cell-requires Inv-loop μ-loop
-next-cell-requires c κs = search needs
-
 returns : tie.Need-returns Inv-loop μ-loop
 returns c =
     let a = c .before .before .before .before .before .before .before .args in
@@ -53,12 +47,6 @@ add-at c =
     let a = c .before .before .before .before .before .before .before .before .args in
     let l = c .before .before .before .before .before .before .loop in
     omega (arith, going-short (a .line .now) (l .at) (a .kind) (l .read) (a .year) (a .sep) [] (c .before .before .before .next-cell .result) (field (c .before .before .before)), l .inv .1)
-
-add-read : tie.Need-add-read Inv-loop μ-loop
-add-read c = search needs
-
-loop-less : tie.Need-loop-less Inv-loop μ-loop
-loop-less c = search needs
 
 loop-again : tie.Need-loop-again Inv-loop μ-loop
 loop-again c =
@@ -85,14 +73,5 @@ pub items-read-spec : {M : Type 1} → statement M
 items-read-spec =
     tie.close
     (tie.spec
-    Inv-loop
-    μ-loop
-    loop-holds
-    part-requires
-    next-cell-requires
-    returns
-    add-at
-    add-read
-    loop-less
-    loop-again
-    returns-2)
+    Inv-loop μ-loop loop-holds (λ c κs. search needs) (λ c κs. search needs) returns add-at (λ c. search needs) (λ c. search needs)
+    loop-again returns-2)

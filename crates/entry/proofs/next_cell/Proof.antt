@@ -8,18 +8,12 @@ use Rattle.entry.proofs.EntryLaws.{cell-right, cell-wrong}
 use Rattle.entry.proofs.next_cell.Statement.{statement}
 use Rattle.entry.proofs.next_cell.Tie as tie
 
-gap-before-requires : tie.Need-gap-before-requires
-gap-before-requires c κs = search needs
-
 returns : tie.Need-returns
 returns c =
     let a = c .before .before .before .before .args in
     let e = c .before .before .gap-before .ensures in
     let wrong = sym (ap (λ (r : Found). eqb (r .answer) 0) e) ∙ ne-eqb (c .before .before .gap-before .result .answer) 0 (c .if1 .taken) in
     e ∙ sym (cell-wrong (a .s .now) (a .kind) (a .k) (a .year) (a .sep) wrong)
-
-next-field-requires : tie.Need-next-field-requires
-next-field-requires c κs = search needs
 
 returns-2 : tie.Need-returns-2
 returns-2 c =
@@ -28,4 +22,6 @@ returns-2 c =
     c .next-field .ensures ∙ sym (cell-right (a .s .now) (a .kind) (a .k) (a .year) (a .sep) right)
 
 pub next-cell-spec : {M : Type 1} → statement M
-next-cell-spec = tie.close (tie.spec gap-before-requires returns next-field-requires returns-2)
+next-cell-spec = tie.close
+    (tie.spec
+    (λ c κs. search needs) returns (λ c κs. search needs) returns-2)

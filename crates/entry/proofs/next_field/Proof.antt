@@ -50,33 +50,15 @@ parted c =
     let s = c .before .before .before .before .before .before .before .before .before .before .before .before .before .before .args .s .now in
     c .parted-here .ensures ∙ ap partedHere (c .before .part2 .ensures ∙ part-is-rest s (c .before .before .before .before .before .before .before .before .before .before .before .before .gaps-in .result + c .before .before .before .before .before .item-found .result .used) ∙ ap (λ (n : ℕ). drop n s) (past (c .before .before .before)))
 
-gaps-in-requires : tie.Need-gaps-in-requires
-gaps-in-requires c κs = search needs
-
-part-requires : tie.Need-part-requires
-part-requires c κs = search needs
-
-ends-here-requires : tie.Need-ends-here-requires
-ends-here-requires c κs = search needs
-
 returns : tie.Need-returns
 returns c =
     let a = c .before .before .before .before .before .args in
     ap (saidAt 255) (c .before .before .before .gaps-in .ensures) ∙ sym (next-ended (a .s .now) (a .kind) (a .k) (a .year) (sym (ends (c .before)) ∙ c .if1 .taken))
 
-most-of-requires : tie.Need-most-of-requires
-most-of-requires c κs = search needs
-
 returns-2 : tie.Need-returns-2
 returns-2 c =
     let a = c .before .before .before .before .before .before .before .args in
     ap (saidAt 11) (c .before .before .before .before .before .gaps-in .ensures) ∙ sym (next-over (a .s .now) (a .kind) (a .k) (a .year) (goes (c .before .before)) (sym (over (c .before)) ∙ le-leb (c .before .most-of .result) (a .k) (c .if2 .taken)))
-
-item-of-requires : tie.Need-item-of-requires
-item-of-requires c κs = search needs
-
-item-found-requires : tie.Need-item-found-requires
-item-found-requires c κs = search needs
 
 returns-3 : tie.Need-returns-3
 returns-3 c =
@@ -91,12 +73,6 @@ add-past c =
     let a = c .before .before .before .before .before .before .before .before .before .before .before .before .args in
     let e = past (c .before) in
     omega (arith, item-fits (a .s .now) (a .kind) (a .k) (a .year))
-
-part-requires-2 : tie.Need-part-requires-2
-part-requires-2 c κs = search needs
-
-parted-here-requires : tie.Need-parted-here-requires
-parted-here-requires c κs = search needs
 
 returns-4 : tie.Need-returns-4
 returns-4 c =
@@ -118,17 +94,5 @@ pub next-field-spec : {M : Type 1} → statement M
 next-field-spec =
     tie.close
     (tie.spec
-    gaps-in-requires
-    part-requires
-    ends-here-requires
-    returns
-    most-of-requires
-    returns-2
-    item-of-requires
-    item-found-requires
-    returns-3
-    add-past
-    part-requires-2
-    parted-here-requires
-    returns-4
-    returns-5)
+    (λ c κs. search needs) (λ c κs. search needs) (λ c κs. search needs) returns (λ c κs. search needs) returns-2 (λ c κs. search needs)
+    (λ c κs. search needs) returns-3 add-past (λ c κs. search needs) (λ c κs. search needs) returns-4 returns-5)

@@ -41,34 +41,10 @@ same c =
 word : (c : tie.After-word-of) → c .word-of .result ≡ wordOf (drop (gapsIn (c .before .before .before .before .before .before .before .before .before .before .args .line .now)) (c .before .before .before .before .before .before .before .before .before .before .args .line .now))
 word c = c .word-of .ensures ∙ ap wordOf (rest (c .before .before .before .before .before .before .before))
 
-gaps-in-requires : tie.Need-gaps-in-requires
-gaps-in-requires c κs = search needs
-
-part-requires : tie.Need-part-requires
-part-requires c κs = search needs
-
-ends-here-requires : tie.Need-ends-here-requires
-ends-here-requires c κs = search needs
-
-no-entry-requires : tie.Need-no-entry-requires
-no-entry-requires c κs = search needs
-
 returns : tie.Need-returns
 returns c =
     let a = c .before .before .before .before .before .before .args in
     c .no-entry .ensures ∙ ap (refusedAt 0) (c .before .before .before .before .gaps-in .ensures) ∙ sym (parse-blank (a .line .now) (a .year) (sym (ends (c .before .before)) ∙ c .before .if1 .taken))
-
-separator-of-requires : tie.Need-separator-of-requires
-separator-of-requires c κs = search needs
-
-part-requires-2 : tie.Need-part-requires-2
-part-requires-2 c κs = search needs
-
-other-at-requires : tie.Need-other-at-requires
-other-at-requires c κs = search needs
-
-no-entry-requires-2 : tie.Need-no-entry-requires-2
-no-entry-requires-2 c κs = search needs
 
 returns-2 : tie.Need-returns-2
 returns-2 c =
@@ -77,12 +53,6 @@ returns-2 c =
     let is : ltb (otherBefore (a .line .now) (a .year)) (gapsIn (a .line .now)) ≡ true =
     sym (λ i. ltb (o i) (c .before .before .before .before .before .before .before .before .gaps-in .ensures i)) ∙ lt-ltb (c .before .before .other-at .result) (c .before .before .before .before .before .before .before .before .gaps-in .result) (c .before .if2 .taken) in
     c .no-entry2 .ensures ∙ ap (refusedAt 13) o ∙ sym (parse-other (a .line .now) (a .year) (goes (c .before .before .before .before .before)) is)
-
-word-of-requires : tie.Need-word-of-requires
-word-of-requires c κs = search needs
-
-no-entry-requires-3 : tie.Need-no-entry-requires-3
-no-entry-requires-3 c κs = search needs
 
 returns-3 : tie.Need-returns-3
 returns-3 c =
@@ -97,9 +67,6 @@ add-gather c =
     let w : c .before .before .before .word-of .result .used ≡ wordOf (drop (gapsIn (a .line .now)) (a .line .now)) .used = ap (λ (r : Word). r .used) (word (c .before .before .before)) in
     let g : c .before .before .before .before .before .before .before .before .before .before .before .gaps-in .result ≡ gapsIn (a .line .now) = c .before .before .before .before .before .before .before .before .before .before .before .gaps-in .ensures in
     omega (arith, gaps-short (a .line .now), word-short (drop (gapsIn (a .line .now)) (a .line .now)))
-
-gather-requires : tie.Need-gather-requires
-gather-requires c κs = search needs
 
 returns-4 : tie.Need-returns-4
 returns-4 c =
@@ -116,19 +83,6 @@ pub parse-spec : {M : Type 1} → statement M
 parse-spec =
     tie.close
     (tie.spec
-    gaps-in-requires
-    part-requires
-    ends-here-requires
-    no-entry-requires
-    returns
-    separator-of-requires
-    part-requires-2
-    other-at-requires
-    no-entry-requires-2
-    returns-2
-    word-of-requires
-    no-entry-requires-3
-    returns-3
-    add-gather
-    gather-requires
-    returns-4)
+    (λ c κs. search needs) (λ c κs. search needs) (λ c κs. search needs) (λ c κs. search needs) returns (λ c κs. search needs)
+    (λ c κs. search needs) (λ c κs. search needs) (λ c κs. search needs) returns-2 (λ c κs. search needs) (λ c κs. search needs) returns-3
+    add-gather (λ c κs. search needs) returns-4)

@@ -10,8 +10,10 @@ use native.Mathlib.Omega.{arith}
 use borrow.Author.Needs.{needs}
 use Rattle.book.specs.declared.Run.{Run}
 use Rattle.book.specs.Book.{runOf, afterBook}
-use Rattle.feed.specs.Feed.{deadRest, moved, pieceAnswer, fedAnswer}
-use Rattle.feed.proofs.FeedLaws.{feed-refused, feed-over, feed-taken, map-long, ledger-sound, refused-few, stop-before, refused-of-piece}
+use Rattle.records.specs.Pieces.{deadRest, moved, pieceAnswer}
+use Rattle.records.proofs.HeldLaws.{stop-before}
+use Rattle.feed.specs.Feed.{fedAnswer}
+use Rattle.feed.proofs.FeedLaws.{feed-refused, feed-over, feed-taken, map-long, ledger-sound, refused-few, refused-of-piece}
 use Rattle.feed.proofs.take_piece.Statement.{statement}
 use Rattle.feed.proofs.take_piece.Tie as tie
 
@@ -37,12 +39,6 @@ piece c =
 run-is : (c : tie.After-take-records) → c .take-records .result ≡ runOf (c .before .before .before .before .before .before .before .before .before .before .before .args .f .ledger) (c .before .before .before .before .before .before .before .before .before .before .before .args .map .now) (take (c .before .before .before .before .before .before .before .before .before .before .before .args .filled) (c .before .before .before .before .before .before .before .before .before .before .before .args .buffer .now))
 run-is c = let a = c .before .before .before .before .before .before .before .before .before .before .before .args in c .take-records .ensures .0 ∙ ap (runOf (a .f .ledger) (a .map .now)) (piece (c .before))
 
-sound-requires : tie.Need-sound-requires
-sound-requires c κs = search needs
-
-piece-answer-requires : tie.Need-piece-answer-requires
-piece-answer-requires c κs = search needs
-
 returns : tie.Need-returns
 returns c =
     let a = c .before .before .before .before .before .before .args in
@@ -55,9 +51,6 @@ returns-2 c =
     let a = c .before .before .before .before .before .before .before .args in
     feed-over (a .f) (a .map .now) (a .buffer .now) (a .filled) (fine (c .before)) (c .if2 .taken)
 
-part-requires : tie.Need-part-requires
-part-requires c κs = search needs
-
 take-records-requires : tie.Need-take-records-requires
 take-records-requires c κs =
     let a = c .before .before .before .before .before .before .before .before .before .before .args in
@@ -67,10 +60,7 @@ take-records-requires c κs =
 sub-held : tie.Need-sub-held
 sub-held c =
     let a = c .before .before .before .before .before .before .before .before .before .before .before .before .before .before .before .args in
-    subst⁻¹ (λ (r : Run). r .stop ≤ a .filled) (run-is (c .before .before .before .before)) (stop-before (a .f) (a .map .now) (a .buffer .now) (a .filled) (fine (c .before .before .before .before .before .before .before .before .before)))
-
-move-to-front-requires : tie.Need-move-to-front-requires
-move-to-front-requires c κs = search needs
+    subst⁻¹ (λ (r : Run). r .stop ≤ a .filled) (run-is (c .before .before .before .before)) (stop-before (a .buffer .now) (a .filled))
 
 add-t22 : tie.Need-add-t22
 add-t22 c =
@@ -79,15 +69,6 @@ add-t22 c =
     let few : c .before .before .before .before .before .before .before .before .before .before .take-records .result .refused ≤ length (a .buffer .now) =
     subst⁻¹ (λ (r : Run). r .refused ≤ length (a .buffer .now)) (run-is (c .before .before .before .before .before .before .before .before .before .before)) (refused-of-piece (a .f) (a .map .now) (a .buffer .now) (a .filled) u) in
     omega (arith, refused-few (a .f) (a .map .now) (a .buffer .now) (a .filled) u, c .before .before .before .before .before .before .before .before .before .before .before .before .before .before .before .before .before .before .before .before .before .good .1 .1 .0)
-
-is-dead-requires : tie.Need-is-dead-requires
-is-dead-requires c κs = search needs
-
-same-length : tie.Need-same-length
-same-length c = search needs
-
-same-length-2 : tie.Need-same-length-2
-same-length-2 c = search needs
 
 returns-3 : tie.Need-returns-3
 returns-3 c =
@@ -112,16 +93,5 @@ pub take-piece-spec : {M : Type 1} → statement M
 take-piece-spec =
     tie.close
     (tie.spec
-    sound-requires
-    piece-answer-requires
-    returns
-    returns-2
-    part-requires
-    take-records-requires
-    sub-held
-    move-to-front-requires
-    add-t22
-    is-dead-requires
-    same-length
-    same-length-2
-    returns-3)
+    (λ c κs. search needs) (λ c κs. search needs) returns returns-2 (λ c κs. search needs) take-records-requires sub-held
+    (λ c κs. search needs) add-t22 (λ c κs. search needs) (λ c. search needs) (λ c. search needs) returns-3)

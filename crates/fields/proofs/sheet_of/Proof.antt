@@ -5,15 +5,11 @@ use mathlib.Core.Bool.{true}
 use Rattle.fields.proofs.sheet_of.Statement.{statement}
 use Rattle.fields.proofs.sheet_of.Tie as tie
 
-u16-at-requires : tie.Need-u16-at-requires
-u16-at-requires c κs = search needs
-
-counts-at-requires : tie.Need-counts-at-requires
-counts-at-requires c κs = search needs
-
 returns : tie.Need-returns
 returns c =
     λ i. record { there = true; year = c .before .u16-at .ensures i; totals = c .counts-at .ensures i }
 
 pub sheet-of-spec : {M : Type 1} → statement M
-sheet-of-spec = tie.close (tie.spec u16-at-requires counts-at-requires returns)
+sheet-of-spec = tie.close
+    (tie.spec
+    (λ c κs. search needs) (λ c κs. search needs) returns)

@@ -3,27 +3,6 @@ use borrow.Author.Needs.{needs}
 use Rattle.fields.proofs.simple_of.Statement.{statement}
 use Rattle.fields.proofs.simple_of.Tie as tie
 
-u32-in-requires : tie.Need-u32-in-requires
-u32-in-requires c κs = search needs
-
-u32-in-requires-2 : tie.Need-u32-in-requires-2
-u32-in-requires-2 c κs = search needs
-
-u32-in-requires-3 : tie.Need-u32-in-requires-3
-u32-in-requires-3 c κs = search needs
-
-u32-in-requires-4 : tie.Need-u32-in-requires-4
-u32-in-requires-4 c κs = search needs
-
-u32-in-requires-5 : tie.Need-u32-in-requires-5
-u32-in-requires-5 c κs = search needs
-
-counts-in-requires : tie.Need-counts-in-requires
-counts-in-requires c κs = search needs
-
-counts-in-requires-2 : tie.Need-counts-in-requires-2
-counts-in-requires-2 c κs = search needs
-
 returns : tie.Need-returns
 returns c =
     λ i.
@@ -41,11 +20,5 @@ pub simple-of-spec : {M : Type 1} → statement M
 simple-of-spec =
     tie.close
     (tie.spec
-    u32-in-requires
-    u32-in-requires-2
-    u32-in-requires-3
-    u32-in-requires-4
-    u32-in-requires-5
-    counts-in-requires
-    counts-in-requires-2
-    returns)
+    (λ c κs. search needs) (λ c κs. search needs) (λ c κs. search needs) (λ c κs. search needs) (λ c κs. search needs)
+    (λ c κs. search needs) (λ c κs. search needs) returns)

@@ -32,22 +32,10 @@ returns c = sym (rw (ne-eqb _ _ (c .if1 .taken)))
 returns-2 : tie.Need-returns-2
 returns-2 c = sym (rw (eq-eqb _ _ (c .before .if1 .left), c .if2 .taken))
 
-u16-at-requires : tie.Need-u16-at-requires
-u16-at-requires c κs = search needs
-
-is-element-requires : tie.Need-is-element-requires
-is-element-requires c κs = search needs
-
 returns-3 : tie.Need-returns-3
 returns-3 c =
     let unknown = ap not (sym (listed (c .before))) ∙ c .if3 .taken in
     sym (rw (eq-eqb _ _ (c .before .before .before .before .if1 .left), c .before .before .before .if2 .left, unknown))
-
-u32-at-requires : tie.Need-u32-at-requires
-u32-at-requires c κs = search needs
-
-u32-at-requires-2 : tie.Need-u32-at-requires-2
-u32-at-requires-2 c κs = search needs
 
 returns-4 : tie.Need-returns-4
 returns-4 c =
@@ -80,13 +68,5 @@ pub outage-answer-spec : {M : Type 1} → statement M
 outage-answer-spec =
     tie.close
     (tie.spec
-    returns
-    returns-2
-    u16-at-requires
-    is-element-requires
-    returns-3
-    u32-at-requires
-    u32-at-requires-2
-    returns-4
-    returns-5
-    returns-6)
+    returns returns-2 (λ c κs. search needs) (λ c κs. search needs) returns-3 (λ c κs. search needs) (λ c κs. search needs) returns-4
+    returns-5 returns-6)

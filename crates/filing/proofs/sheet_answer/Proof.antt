@@ -14,12 +14,6 @@ returns c = sym (rw (ne-eqb _ _ (c .if1 .taken)))
 returns-2 : tie.Need-returns-2
 returns-2 c = sym (rw (eq-eqb _ _ (c .before .if1 .left), c .if2 .taken))
 
-sheet-of-requires : tie.Need-sheet-of-requires
-sheet-of-requires c κs = search needs
-
-in-range-requires : tie.Need-in-range-requires
-in-range-requires c κs = search needs
-
 -- the test of the sheet is that of the sheet in the bytes
 tested : (c : tie.After-in-range) → c .in-range .result ≡ inRange (sheetIn (c .before .before .before .before .before .args .bytes .now))
 tested c = c .in-range .ensures ∙ ap inRange (c .before .sheet-of .ensures)
@@ -38,4 +32,6 @@ returns-4 c =
 
 pub sheet-answer-spec : {M : Type 1} → statement M
 sheet-answer-spec =
-    tie.close (tie.spec returns returns-2 sheet-of-requires in-range-requires returns-3 returns-4)
+    tie.close
+    (tie.spec
+    returns returns-2 (λ c κs. search needs) (λ c κs. search needs) returns-3 returns-4)

@@ -35,15 +35,6 @@ returns-3 c =
     let second : (not (c .before .before .before .before .before .args .seen) || ltb 0 (r .stock)) ≡ true = λ i. c .before .before .if2 .left i || lt-ltb 0 (r .stock) told i in
     sym (rw (eq-eqb _ _ (c .before .before .before .if1 .left), second))
 
-u16-at-requires : tie.Need-u16-at-requires
-u16-at-requires c κs = search needs
-
-is-element-requires : tie.Need-is-element-requires
-is-element-requires c κs = search needs
-
-byte-at-requires : tie.Need-byte-at-requires
-byte-at-requires c κs = search needs
-
 -- after a sheet, a stock that is not told yet
 free : (c : tie.Else3) → (not (c .before .before .before .before .before .args .seen) || ltb 0 (c .before .before .before .before .before .args .row .stock)) ≡ false
 free c =
@@ -65,11 +56,4 @@ pub stock-answer-spec : {M : Type 1} → statement M
 stock-answer-spec =
     tie.close
     (tie.spec
-    returns
-    returns-2
-    returns-3
-    u16-at-requires
-    is-element-requires
-    byte-at-requires
-    returns-4
-    returns-5)
+    returns returns-2 returns-3 (λ c κs. search needs) (λ c κs. search needs) (λ c κs. search needs) returns-4 returns-5)

@@ -5,18 +5,6 @@ use borrow.Author.Needs.{needs}
 use Rattle.index.proofs.decimal_of.Statement.{statement}
 use Rattle.index.proofs.decimal_of.Tie as tie
 
-index-of-requires : tie.Need-index-of-requires
-index-of-requires c κs = search needs
-
-enum-known-f : tie.Need-enum-known-f
-enum-known-f c = search needs
-
-decimal-of-requires : tie.Need-decimal-of-requires
-decimal-of-requires c κs = search needs
-
-enum-known-n : tie.Need-enum-known-n
-enum-known-n c = search needs
-
 returns : tie.Need-returns
 returns c =
     c .decimal-of .ensures ∙ ap (λ a. shownAnswer a (c .before .before .before .before .before .args .digits)) (sym (c .before .before .f .given .1) ∙ c .before .before .before .before .index-of .ensures)
@@ -28,4 +16,5 @@ returns-2 c =
 pub decimal-of-spec : {M : Type 1} → statement M
 decimal-of-spec =
     tie.close
-    (tie.spec index-of-requires enum-known-f decimal-of-requires enum-known-n returns returns-2)
+    (tie.spec
+    (λ c κs. search needs) (λ c. search needs) (λ c κs. search needs) (λ c. search needs) returns returns-2)

@@ -4,11 +4,10 @@ use Rattle.inflow.specs.Inflow.{fresh}
 use Rattle.inflow.proofs.begin.Statement.{statement}
 use Rattle.inflow.proofs.begin.Tie as tie
 
-begin-file-requires : tie.Need-begin-file-requires
-begin-file-requires c κs = search needs
-
 returns : tie.Need-returns
 returns c = let begun = c .before .begin-file .ensures in λ i. record { answer = begun i .answer; flow = fresh (begun i .table) }
 
 pub begin-spec : {M : Type 1} → statement M
-begin-spec = tie.close (tie.spec begin-file-requires returns)
+begin-spec = tie.close
+    (tie.spec
+    (λ c κs. search needs) returns)

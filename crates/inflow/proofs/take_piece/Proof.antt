@@ -5,11 +5,12 @@ use mathlib.Core.Path.{_≡_, sym, ap, _∙_, subst⁻¹}
 use lib.ListN.{length, take}
 use native.Mathlib.Omega.{arith}
 use borrow.Author.Needs.{needs}
-use Rattle.feed.specs.Feed.{deadRest, moved, pieceAnswer}
+use Rattle.records.specs.Pieces.{deadRest, moved, pieceAnswer}
+use Rattle.records.proofs.HeldLaws.{stop-before}
 use Rattle.yearly.specs.declared.Run.{Run}
 use Rattle.yearly.specs.Yearly.{runOf}
 use Rattle.inflow.specs.Inflow.{flowAnswer}
-use Rattle.inflow.proofs.FlowLaws.{flow-refused, flow-over, flow-taken, refused-few, stop-before, refused-of-piece}
+use Rattle.inflow.proofs.FlowLaws.{flow-refused, flow-over, flow-taken, refused-few, refused-of-piece}
 use Rattle.inflow.proofs.take_piece.Statement.{statement}
 use Rattle.inflow.proofs.take_piece.Tie as tie
 
@@ -31,12 +32,6 @@ run-is c =
     let all : a .filled - 0 ≡ a .filled = omega arith in
     c .take-records .ensures ∙ ap (runOf (a .f .table)) (c .before .part .ensures ∙ ap (λ n. take n (a .buffer .now)) all)
 
-sound-requires : tie.Need-sound-requires
-sound-requires c κs = search needs
-
-piece-answer-requires : tie.Need-piece-answer-requires
-piece-answer-requires c κs = search needs
-
 returns : tie.Need-returns
 returns c =
     let a = c .before .before .before .before .before .args in
@@ -49,19 +44,10 @@ returns-2 c =
     let a = c .before .before .before .before .before .before .args in
     flow-over (a .f) (a .buffer .now) (a .filled) (fine (c .before)) (c .if2 .taken)
 
-part-requires : tie.Need-part-requires
-part-requires c κs = search needs
-
-take-records-requires : tie.Need-take-records-requires
-take-records-requires c κs = search needs
-
 sub-held : tie.Need-sub-held
 sub-held c =
     let a = c .before .before .before .before .before .before .before .before .before .before .before .args in
-    subst⁻¹ (λ (r : Run). r .stop ≤ a .filled) (run-is (c .before .before)) (stop-before (a .f) (a .buffer .now) (a .filled) (fine (c .before .before .before .before .before .before)))
-
-move-to-front-requires : tie.Need-move-to-front-requires
-move-to-front-requires c κs = search needs
+    subst⁻¹ (λ (r : Run). r .stop ≤ a .filled) (run-is (c .before .before)) (stop-before (a .buffer .now) (a .filled))
 
 add-t18 : tie.Need-add-t18
 add-t18 c =
@@ -70,12 +56,6 @@ add-t18 c =
     let few : c .before .before .before .before .before .before .before .before .take-records .result .refused ≤ length (a .buffer .now) =
     subst⁻¹ (λ (r : Run). r .refused ≤ length (a .buffer .now)) (run-is (c .before .before .before .before .before .before .before .before)) (refused-of-piece (a .f) (a .buffer .now) (a .filled) u) in
     omega (arith, refused-few (a .f) (a .buffer .now) (a .filled) u, c .before .before .before .before .before .before .before .before .before .before .before .before .before .before .before .before .before .good .1 .0)
-
-is-dead-requires : tie.Need-is-dead-requires
-is-dead-requires c κs = search needs
-
-same-length : tie.Need-same-length
-same-length c = search needs
 
 returns-3 : tie.Need-returns-3
 returns-3 c =
@@ -98,15 +78,5 @@ pub take-piece-spec : {M : Type 1} → statement M
 take-piece-spec =
     tie.close
     (tie.spec
-    sound-requires
-    piece-answer-requires
-    returns
-    returns-2
-    part-requires
-    take-records-requires
-    sub-held
-    move-to-front-requires
-    add-t18
-    is-dead-requires
-    same-length
-    returns-3)
+    (λ c κs. search needs) (λ c κs. search needs) returns returns-2 (λ c κs. search needs) (λ c κs. search needs) sub-held
+    (λ c κs. search needs) add-t18 (λ c κs. search needs) (λ c. search needs) returns-3)

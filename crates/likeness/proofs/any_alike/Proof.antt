@@ -17,23 +17,11 @@ second c = sym (c .before .is-alike2 .ensures) ∙ c .if2 .left
 third : (c : tie.Else3) → isAlike (c .before .before .before .before .before .before .before .before .before .before .args .s .now) (wordText 3) ≡ false
 third c = sym (c .before .is-alike3 .ensures) ∙ c .if3 .left
 
-slice-aggregate-is-alike : tie.Need-slice-aggregate-is-alike
-slice-aggregate-is-alike c = search needs
-
-is-alike-requires : tie.Need-is-alike-requires
-is-alike-requires c κs = search needs
-
 returns : tie.Need-returns
 unfolding anyAlike
 returns c =
     let is = sym (c .before .is-alike .ensures) ∙ c .if1 .taken in
     rw (anyAlike, is)
-
-slice-aggregate-is-alike-2 : tie.Need-slice-aggregate-is-alike-2
-slice-aggregate-is-alike-2 c = search needs
-
-is-alike-requires-2 : tie.Need-is-alike-requires-2
-is-alike-requires-2 c κs = search needs
 
 returns-2 : tie.Need-returns-2
 unfolding anyAlike
@@ -41,23 +29,11 @@ returns-2 c =
     let is = sym (c .before .is-alike2 .ensures) ∙ c .if2 .taken in
     rw (anyAlike, first (c .before .before .before), is)
 
-slice-aggregate-is-alike-3 : tie.Need-slice-aggregate-is-alike-3
-slice-aggregate-is-alike-3 c = search needs
-
-is-alike-requires-3 : tie.Need-is-alike-requires-3
-is-alike-requires-3 c κs = search needs
-
 returns-3 : tie.Need-returns-3
 unfolding anyAlike
 returns-3 c =
     let is = sym (c .before .is-alike3 .ensures) ∙ c .if3 .taken in
     rw (anyAlike, first (c .before .before .before .before .before .before), second (c .before .before .before), is)
-
-slice-aggregate-is-alike-4 : tie.Need-slice-aggregate-is-alike-4
-slice-aggregate-is-alike-4 c = search needs
-
-is-alike-requires-4 : tie.Need-is-alike-requires-4
-is-alike-requires-4 c κs = search needs
 
 returns-4 : tie.Need-returns-4
 unfolding anyAlike
@@ -67,15 +43,5 @@ pub any-alike-spec : {M : Type 1} → statement M
 any-alike-spec =
     tie.close
     (tie.spec
-    slice-aggregate-is-alike
-    is-alike-requires
-    returns
-    slice-aggregate-is-alike-2
-    is-alike-requires-2
-    returns-2
-    slice-aggregate-is-alike-3
-    is-alike-requires-3
-    returns-3
-    slice-aggregate-is-alike-4
-    is-alike-requires-4
-    returns-4)
+    (λ c. search needs) (λ c κs. search needs) returns (λ c. search needs) (λ c κs. search needs) returns-2 (λ c. search needs)
+    (λ c κs. search needs) returns-3 (λ c. search needs) (λ c κs. search needs) returns-4)

@@ -10,9 +10,6 @@ returns : tie.Need-returns
 unfolding gapLike
 returns c = rw (gapLike, ne-eqb (c .before .before .args .item) 4 (c .if1 .taken))
 
-time-goes-on-requires : tie.Need-time-goes-on-requires
-time-goes-on-requires c κs = search needs
-
 returns-2 : tie.Need-returns-2
 unfolding gapLike
 returns-2 c =
@@ -26,4 +23,6 @@ returns-3 c =
     rw (gapLike, eq-eqb (c .before .before .before .before .args .item) 4 (c .before .before .if1 .left), none)
 
 pub gap-like-spec : {M : Type 1} → statement M
-gap-like-spec = tie.close (tie.spec returns time-goes-on-requires returns-2 returns-3)
+gap-like-spec = tie.close
+    (tie.spec
+    returns (λ c κs. search needs) returns-2 returns-3)

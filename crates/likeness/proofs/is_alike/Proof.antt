@@ -9,19 +9,10 @@ use Rattle.likeness.proofs.LikenessLaws.{not-alike, alike-parted}
 use Rattle.likeness.proofs.is_alike.Statement.{statement}
 use Rattle.likeness.proofs.is_alike.Tie as tie
 
-begins-alike-requires : tie.Need-begins-alike-requires
-begins-alike-requires c κs = search needs
-
 returns : tie.Need-returns
 returns c =
     let a = c .before .before .before .before .args in
     not-alike (a .s .now) (a .word .now) (sym (c .before .begins-alike .ensures) ∙ not-true (c .before .begins-alike .result) (c .if1 .taken))
-
-part-requires : tie.Need-part-requires
-part-requires c κs = search needs
-
-parted-here-requires : tie.Need-parted-here-requires
-parted-here-requires c κs = search needs
 
 returns-2 : tie.Need-returns-2
 returns-2 c =
@@ -31,4 +22,6 @@ returns-2 c =
     alike-parted (a .s .now) (a .word .now) (sym (begins .ensures) ∙ not-false (begins .result) (c .before .before .if1 .left))
 
 pub is-alike-spec : {M : Type 1} → statement M
-is-alike-spec = tie.close (tie.spec begins-alike-requires returns part-requires parted-here-requires returns-2)
+is-alike-spec = tie.close
+    (tie.spec
+    (λ c κs. search needs) returns (λ c κs. search needs) (λ c κs. search needs) returns-2)

@@ -10,12 +10,6 @@ use Rattle.likeness.specs.Likeness.{isLetter, lettersIn, isHeader}
 use Rattle.likeness.proofs.is_header.Statement.{statement}
 use Rattle.likeness.proofs.is_header.Tie as tie
 
-byte-at-requires : tie.Need-byte-at-requires
-byte-at-requires c κs = search needs
-
-is-letter-requires : tie.Need-is-letter-requires
-is-letter-requires c κs = search needs
-
 no-header : (s : List ℕ) → isLetter (byteAt s 0) ≡ false → false ≡ isHeader s
 unfolding isHeader
 no-header s e = sym (ap (λ t. t && lettersIn false s) e)
@@ -26,9 +20,6 @@ returns c =
     let none = sym (m .ensures ∙ ap isLetter (c .before .before .byte-at .ensures)) ∙ not-true (m .result) (c .if1 .taken) in
     no-header _ none
 
-letters-in-requires : tie.Need-letters-in-requires
-letters-in-requires c κs = search needs
-
 returns-2 : tie.Need-returns-2
 unfolding isHeader
 returns-2 c =
@@ -37,4 +28,6 @@ returns-2 c =
     rw (isHeader, is) (c .letters-in .ensures)
 
 pub is-header-spec : {M : Type 1} → statement M
-is-header-spec = tie.close (tie.spec byte-at-requires is-letter-requires returns letters-in-requires returns-2)
+is-header-spec = tie.close
+    (tie.spec
+    (λ c κs. search needs) (λ c κs. search needs) returns (λ c κs. search needs) returns-2)

@@ -15,17 +15,11 @@ first c = eq-eqb (byteAt (c .before .before .before .args .s .now) 0) 239 (sym (
 second : (c : tie.Else2) → eqb (byteAt (c .before .before .before .before .before .args .s .now) 1) 187 ≡ true
 second c = eq-eqb (byteAt (c .before .before .before .before .before .args .s .now) 1) 187 (sym (c .before .byte-at2 .ensures) ∙ c .if2 .left)
 
-byte-at-requires : tie.Need-byte-at-requires
-byte-at-requires c κs = search needs
-
 returns : tie.Need-returns
 unfolding isMark
 returns c =
     let none = ne-eqb (byteAt (c .before .before .before .args .s .now) 0) 239 (λ e. c .if1 .taken (c .before .byte-at .ensures ∙ e)) in
     rw (isMark, none)
-
-byte-at-requires-2 : tie.Need-byte-at-requires-2
-byte-at-requires-2 c κs = search needs
 
 returns-2 : tie.Need-returns-2
 unfolding isMark
@@ -33,12 +27,11 @@ returns-2 c =
     let none = ne-eqb (byteAt (c .before .before .before .before .before .args .s .now) 1) 187 (λ e. c .if2 .taken (c .before .byte-at2 .ensures ∙ e)) in
     rw (isMark, first (c .before .before), none)
 
-byte-at-requires-3 : tie.Need-byte-at-requires-3
-byte-at-requires-3 c κs = search needs
-
 returns-3 : tie.Need-returns-3
 unfolding isMark
 returns-3 c = rw (isMark, first (c .before .before .before), second (c .before), c .byte-at3 .ensures)
 
 pub is-mark-spec : {M : Type 1} → statement M
-is-mark-spec = tie.close (tie.spec byte-at-requires returns byte-at-requires-2 returns-2 byte-at-requires-3 returns-3)
+is-mark-spec = tie.close
+    (tie.spec
+    (λ c κs. search needs) returns (λ c κs. search needs) returns-2 (λ c κs. search needs) returns-3)

@@ -13,9 +13,6 @@ use Rattle.likeness.proofs.item_like.Tie as tie
 unquoted : (c : tie.Else1) → eqb (byteAt (c .before .before .before .args .s .now) 0) 34 ≡ false
 unquoted c = ne-eqb (byteAt (c .before .before .before .args .s .now) 0) 34 (λ e. c .if1 .left (c .before .byte-at .ensures ∙ e))
 
-byte-at-requires : tie.Need-byte-at-requires
-byte-at-requires c κs = search needs
-
 returns : tie.Need-returns
 unfolding itemLike
 returns c = rw (itemLike, eq-eqb (byteAt (c .before .before .before .args .s .now) 0) 34 (sym (c .before .byte-at .ensures) ∙ c .if1 .taken))
@@ -23,9 +20,6 @@ returns c = rw (itemLike, eq-eqb (byteAt (c .before .before .before .args .s .no
 returns-2 : tie.Need-returns-2
 unfolding itemLike
 returns-2 c = rw (itemLike, unquoted (c .before), ne-eqb (c .before .before .before .before .args .answer) 6 (c .if2 .taken))
-
-is-digit-requires : tie.Need-is-digit-requires
-is-digit-requires c κs = search needs
 
 returns-3 : tie.Need-returns-3
 unfolding itemLike
@@ -40,4 +34,6 @@ returns-4 c =
     rw (itemLike, unquoted (c .before .before .before), eq-eqb (c .before .before .before .before .before .before .args .answer) 6 (c .before .before .if2 .left), none)
 
 pub item-like-spec : {M : Type 1} → statement M
-item-like-spec = tie.close (tie.spec byte-at-requires returns returns-2 is-digit-requires returns-3 returns-4)
+item-like-spec = tie.close
+    (tie.spec
+    (λ c κs. search needs) returns returns-2 (λ c κs. search needs) returns-3 returns-4)

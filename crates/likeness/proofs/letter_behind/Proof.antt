@@ -7,11 +7,10 @@ use Rattle.likeness.proofs.letter_behind.Tie as tie
 returns : tie.Need-returns
 returns c = rw (not-true (c .before .args .behind) (c .if1 .taken))
 
-is-letter-requires : tie.Need-is-letter-requires
-is-letter-requires c κs = search needs
-
 returns-2 : tie.Need-returns-2
 returns-2 c = rw (not-false (c .before .before .args .behind) (c .before .if1 .left)) (c .is-letter .ensures)
 
 pub letter-behind-spec : {M : Type 1} → statement M
-letter-behind-spec = tie.close (tie.spec returns is-letter-requires returns-2)
+letter-behind-spec = tie.close
+    (tie.spec
+    returns (λ c κs. search needs) returns-2)

@@ -19,17 +19,11 @@ abbrev μ-loop : tie.MeasureT-loop
 loop-holds : tie.Need-loop-holds Inv-loop μ-loop
 loop-holds c = search needs
 
-shared-slice-read-b : tie.Need-shared-slice-read-b Inv-loop μ-loop
-shared-slice-read-b c = search needs
-
 returns : tie.Need-returns Inv-loop μ-loop
 returns c =
     let s = c .before .before .before .before .before .args .s .now in
     let l = c .before .before .before .loop in
     sym (l .inv .1 ∙ letters-comment s (l .i) (l .behind) (c .before .before .loop-test .taken) (c .if1 .taken))
-
-letter-behind-requires : tie.Need-letter-behind-requires Inv-loop μ-loop
-letter-behind-requires c κs = search needs
 
 returns-2 : tie.Need-returns-2 Inv-loop μ-loop
 returns-2 c =
@@ -38,15 +32,6 @@ returns-2 c =
     let no = ne-eqb (getD s (l .i) 0) 35 (c .before .before .if1 .left) in
     let is = sym (c .before .letter-behind .ensures) ∙ c .if2 .taken in
     sym (l .inv .1 ∙ letters-here s (l .i) (l .behind) (c .before .before .before .before .loop-test .taken) no is)
-
-is-gap-requires : tie.Need-is-gap-requires Inv-loop μ-loop
-is-gap-requires c κs = search needs
-
-add-i : tie.Need-add-i Inv-loop μ-loop
-add-i c = search needs
-
-loop-less : tie.Need-loop-less Inv-loop μ-loop
-loop-less c = search needs
 
 loop-again : tie.Need-loop-again Inv-loop μ-loop
 loop-again c =
@@ -67,15 +52,5 @@ pub letters-in-spec : {M : Type 1} → statement M
 letters-in-spec =
     tie.close
     (tie.spec
-    Inv-loop
-    μ-loop
-    loop-holds
-    shared-slice-read-b
-    returns
-    letter-behind-requires
-    returns-2
-    is-gap-requires
-    add-i
-    loop-less
-    loop-again
-    returns-3)
+    Inv-loop μ-loop loop-holds (λ c. search needs) returns (λ c κs. search needs) returns-2 (λ c κs. search needs) (λ c. search needs)
+    (λ c. search needs) loop-again returns-3)

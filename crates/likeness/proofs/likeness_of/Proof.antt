@@ -15,23 +15,11 @@ use Rattle.likeness.proofs.likeness_of.Tie as tie
 rest : (c : tie.After-part) → c .part .result .now ≡ drop (c .before .before .args .at) (c .before .before .args .line .now)
 rest c = c .part .ensures ∙ part-is-rest (c .before .before .args .line .now) (c .before .before .args .at)
 
-part-requires : tie.Need-part-requires
-part-requires c κs = search needs
-
-word-like-requires : tie.Need-word-like-requires
-word-like-requires c κs = search needs
-
 returns : tie.Need-returns
 unfolding likenessOf
 returns c =
     let a = c .before .before .before .before .args in
     rw (likenessOf, eq-eqb (a .answer) 1 (c .before .if1 .taken)) (c .word-like .ensures ∙ ap wordLike (rest (c .before .before)))
-
-item-refused-requires : tie.Need-item-refused-requires
-item-refused-requires c κs = search needs
-
-gap-like-requires : tie.Need-gap-like-requires
-gap-like-requires c κs = search needs
 
 returns-2 : tie.Need-returns-2
 unfolding likenessOf
@@ -40,12 +28,6 @@ returns-2 c =
     let r = rest (c .before .before .before .before) in
     rw (likenessOf, ne-eqb (a .answer) 1 (c .before .before .before .if1 .left), eq-eqb (a .answer) 10 (c .before .before .if2 .taken))
     (c .gap-like .ensures ∙ (λ i. gapLike (r i) (c .before .item-refused .ensures i)))
-
-asks-item-requires : tie.Need-asks-item-requires
-asks-item-requires c κs = search needs
-
-item-like-requires : tie.Need-item-like-requires
-item-like-requires c κs = search needs
 
 returns-3 : tie.Need-returns-3
 unfolding likenessOf
@@ -66,13 +48,5 @@ pub likeness-of-spec : {M : Type 1} → statement M
 likeness-of-spec =
     tie.close
     (tie.spec
-    part-requires
-    word-like-requires
-    returns
-    item-refused-requires
-    gap-like-requires
-    returns-2
-    asks-item-requires
-    item-like-requires
-    returns-3
-    returns-4)
+    (λ c κs. search needs) (λ c κs. search needs) returns (λ c κs. search needs) (λ c κs. search needs) returns-2 (λ c κs. search needs)
+    (λ c κs. search needs) returns-3 returns-4)

@@ -9,9 +9,6 @@ returns : tie.Need-returns
 unfolding lowered
 returns c = let b = c .before .args .b in rw (lowered, lt-ltb b 65 (c .if1 .taken))
 
-add-result : tie.Need-add-result
-add-result c = search needs
-
 returns-2 : tie.Need-returns-2
 unfolding lowered
 returns-2 c = let b = c .before .before .args .b in rw (lowered, le-ltb b 65 (c .before .if1 .left), le-leb b 90 (c .if2 .taken))
@@ -21,4 +18,6 @@ unfolding lowered
 returns-3 c = let b = c .before .before .args .b in rw (lowered, le-ltb b 65 (c .before .if1 .left), lt-leb b 90 (c .if2 .left))
 
 pub lowered-spec : {M : Type 1} → statement M
-lowered-spec = tie.close (tie.spec returns add-result returns-2 returns-3)
+lowered-spec = tie.close
+    (tie.spec
+    returns (λ c. search needs) returns-2 returns-3)

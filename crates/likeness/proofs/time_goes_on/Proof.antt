@@ -7,24 +7,12 @@ use Rattle.likeness.specs.Likeness.{marksTime, timeGoesOn}
 use Rattle.likeness.proofs.time_goes_on.Statement.{statement}
 use Rattle.likeness.proofs.time_goes_on.Tie as tie
 
-byte-at-requires : tie.Need-byte-at-requires
-byte-at-requires c κs = search needs
-
-marks-time-requires : tie.Need-marks-time-requires
-marks-time-requires c κs = search needs
-
 returns : tie.Need-returns
 unfolding timeGoesOn
 returns c =
     let m = c .before .marks-time in
     let none = sym (m .ensures ∙ ap marksTime (c .before .before .byte-at .ensures)) ∙ not-true (m .result) (c .if1 .taken) in
     rw (timeGoesOn, none)
-
-byte-at-requires-2 : tie.Need-byte-at-requires-2
-byte-at-requires-2 c κs = search needs
-
-is-digit-requires : tie.Need-is-digit-requires
-is-digit-requires c κs = search needs
 
 returns-2 : tie.Need-returns-2
 unfolding timeGoesOn
@@ -34,4 +22,6 @@ returns-2 c =
     rw (timeGoesOn, is) (c .is-digit .ensures ∙ ap isDigit (c .before .byte-at2 .ensures))
 
 pub time-goes-on-spec : {M : Type 1} → statement M
-time-goes-on-spec = tie.close (tie.spec byte-at-requires marks-time-requires returns byte-at-requires-2 is-digit-requires returns-2)
+time-goes-on-spec = tie.close
+    (tie.spec
+    (λ c κs. search needs) (λ c κs. search needs) returns (λ c κs. search needs) (λ c κs. search needs) returns-2)

@@ -19,33 +19,21 @@ unquoted c = ne-eqb (byteAt (c .before .before .before .before .before .args .s 
 no-word : (c : tie.Else3) → anyAlike (c .before .before .before .before .before .before .before .args .s .now) ≡ false
 no-word c = sym (c .before .any-alike .ensures) ∙ c .if3 .left
 
-is-mark-requires : tie.Need-is-mark-requires
-is-mark-requires c κs = search needs
-
 returns : tie.Need-returns
 unfolding wordLike
 returns c =
     let is = sym (c .before .is-mark .ensures) ∙ c .if1 .taken in
     rw (wordLike, is)
 
-byte-at-requires : tie.Need-byte-at-requires
-byte-at-requires c κs = search needs
-
 returns-2 : tie.Need-returns-2
 unfolding wordLike
 returns-2 c = rw (wordLike, unmarked (c .before .before), eq-eqb (byteAt (c .before .before .before .before .before .args .s .now) 0) 34 (sym (c .before .byte-at .ensures) ∙ c .if2 .taken))
-
-any-alike-requires : tie.Need-any-alike-requires
-any-alike-requires c κs = search needs
 
 returns-3 : tie.Need-returns-3
 unfolding wordLike
 returns-3 c =
     let is = sym (c .before .any-alike .ensures) ∙ c .if3 .taken in
     rw (wordLike, unmarked (c .before .before .before .before), unquoted (c .before .before), is)
-
-is-header-requires : tie.Need-is-header-requires
-is-header-requires c κs = search needs
 
 returns-4 : tie.Need-returns-4
 unfolding wordLike
@@ -63,12 +51,5 @@ pub word-like-spec : {M : Type 1} → statement M
 word-like-spec =
     tie.close
     (tie.spec
-    is-mark-requires
-    returns
-    byte-at-requires
-    returns-2
-    any-alike-requires
-    returns-3
-    is-header-requires
-    returns-4
+    (λ c κs. search needs) returns (λ c κs. search needs) returns-2 (λ c κs. search needs) returns-3 (λ c κs. search needs) returns-4
     returns-5)

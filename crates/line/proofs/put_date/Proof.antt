@@ -8,33 +8,6 @@ use borrow.Author.Needs.{needs}
 use Rattle.line.proofs.put_date.Statement.{statement}
 use Rattle.line.proofs.put_date.Tie as tie
 
-date-of-requires : tie.Need-date-of-requires
-date-of-requires c κs = search needs
-
-put-two-requires : tie.Need-put-two-requires
-put-two-requires c κs = search needs
-
-put-requires : tie.Need-put-requires
-put-requires c κs = search needs
-
-put-two-requires-2 : tie.Need-put-two-requires-2
-put-two-requires-2 c κs = search needs
-
-put-requires-2 : tie.Need-put-requires-2
-put-requires-2 c κs = search needs
-
-put-two-requires-3 : tie.Need-put-two-requires-3
-put-two-requires-3 c κs = search needs
-
-put-requires-3 : tie.Need-put-requires-3
-put-requires-3 c κs = search needs
-
-put-two-requires-4 : tie.Need-put-two-requires-4
-put-two-requires-4 c κs = search needs
-
-same-length : tie.Need-same-length
-same-length c = search needs
-
 returns : tie.Need-returns
 unfolding dateText
 returns c =
@@ -49,4 +22,7 @@ returns c =
     c .before .before .put-two4 .ensures ∙ ap (λ (s : Spot). pushedAll s (twoText (d .minute))) colon ∙ ap (λ (e : Date). pushedAll (spot (a .out .now) (a .at)) (dateParts e)) (c .before .before .before .before .before .before .before .before .before .before .before .before .before .before .before .before .before .before .before .before .before .before .before .before .before .before .before .before .date-of .ensures)
 
 pub put-date-spec : {M : Type 1} → statement M
-put-date-spec = tie.close (tie.spec date-of-requires put-two-requires put-requires put-two-requires-2 put-requires-2 put-two-requires-3 put-requires-3 put-two-requires-4 same-length returns)
+put-date-spec = tie.close
+    (tie.spec
+    (λ c κs. search needs) (λ c κs. search needs) (λ c κs. search needs) (λ c κs. search needs) (λ c κs. search needs)
+    (λ c κs. search needs) (λ c κs. search needs) (λ c κs. search needs) (λ c. search needs) returns)

@@ -6,33 +6,15 @@ use borrow.Author.Needs.{needs}
 use Rattle.line.proofs.put_item.Statement.{statement}
 use Rattle.line.proofs.put_item.Tie as tie
 
-put-time-requires : tie.Need-put-time-requires
-put-time-requires c κs = search needs
-
-same-length : tie.Need-same-length
-same-length c = search needs
-
 returns : tie.Need-returns
 returns c =
     let a = c .before .before .before .before .before .before .args in
     c .before .before .put-time .ensures ∙ ap (pushedAll (spot (a .out .now) (a .at))) (sym (item-time (a .item) (a .year) (a .value) (c .before .before .before .before .if1 .taken)))
 
-put-hex-requires : tie.Need-put-hex-requires
-put-hex-requires c κs = search needs
-
-same-length-2 : tie.Need-same-length-2
-same-length-2 c = search needs
-
 returns-2 : tie.Need-returns-2
 returns-2 c =
     let a = c .before .before .before .before .before .before .before .args in
     c .before .before .put-hex .ensures ∙ ap (pushedAll (spot (a .out .now) (a .at))) (sym (item-digits (a .item) (a .year) (a .value) (c .before .before .before .before .before .if1 .left) (c .before .before .before .before .if2 .taken)))
-
-put-number-requires : tie.Need-put-number-requires
-put-number-requires c κs = search needs
-
-same-length-3 : tie.Need-same-length-3
-same-length-3 c = search needs
 
 returns-3 : tie.Need-returns-3
 returns-3 c =
@@ -40,4 +22,7 @@ returns-3 c =
     c .before .before .put-number .ensures ∙ ap (pushedAll (spot (a .out .now) (a .at))) (sym (item-number (a .item) (a .year) (a .value) (c .before .before .before .before .before .if1 .left) (c .before .before .before .before .if2 .left)))
 
 pub put-item-spec : {M : Type 1} → statement M
-put-item-spec = tie.close (tie.spec put-time-requires same-length returns put-hex-requires same-length-2 returns-2 put-number-requires same-length-3 returns-3)
+put-item-spec = tie.close
+    (tie.spec
+    (λ c κs. search needs) (λ c. search needs) returns (λ c κs. search needs) (λ c. search needs) returns-2 (λ c κs. search needs)
+    (λ c. search needs) returns-3)

@@ -31,27 +31,6 @@ returns c =
     let l = c .before .before .before .loop in
     sym (l .inv .1 ∙ count-end (spot (l .out) (l .to)) (a .entry .kind) (a .year) (l .k) (a .entry .count) (a .entry .values) (omega (arith, c .if1 .taken)))
 
-put-gap-requires : tie.Need-put-gap-requires Inv-loop μ-loop
-put-gap-requires c κs = search needs
-
-item-of-requires : tie.Need-item-of-requires Inv-loop μ-loop
-item-of-requires c κs = search needs
-
-mul-put-item : tie.Need-mul-put-item Inv-loop μ-loop
-mul-put-item c = search needs
-
-array-read-put-item : tie.Need-array-read-put-item Inv-loop μ-loop
-array-read-put-item c = search needs
-
-put-item-requires : tie.Need-put-item-requires Inv-loop μ-loop
-put-item-requires c κs = search needs
-
-add-k : tie.Need-add-k Inv-loop μ-loop
-add-k c = search needs
-
-loop-less : tie.Need-loop-less Inv-loop μ-loop
-loop-less c = search needs
-
 loop-again : tie.Need-loop-again Inv-loop μ-loop
 loop-again c =
     let a = c .before .before .before .before .before .before .before .before .before .before .before .before .before .before .before .args in
@@ -71,4 +50,7 @@ returns-2 c =
     sym (l .inv .1 ∙ values-end (spot (l .out) (l .to)) (a .entry .kind) (a .year) (l .k) (a .entry .count) (a .entry .values) (omega (arith, simp length-map at (c .before .before .before .before .good .1 .1 .0 .1 .1 .1 .1 .0 .1 .0 .1))))
 
 pub put-items-spec : {M : Type 1} → statement M
-put-items-spec = tie.close (tie.spec Inv-loop μ-loop loop-holds same-length returns put-gap-requires item-of-requires mul-put-item array-read-put-item put-item-requires add-k loop-less loop-again same-length-2 returns-2)
+put-items-spec = tie.close
+    (tie.spec
+    Inv-loop μ-loop loop-holds same-length returns (λ c κs. search needs) (λ c κs. search needs) (λ c. search needs) (λ c. search needs)
+    (λ c κs. search needs) (λ c. search needs) (λ c. search needs) loop-again same-length-2 returns-2)

@@ -8,19 +8,12 @@ use borrow.Author.Needs.{needs}
 use Rattle.line.proofs.write_line.Statement.{statement}
 use Rattle.line.proofs.write_line.Tie as tie
 
-put-word-requires : tie.Need-put-word-requires
-put-word-requires c κs = search needs
-
-put-items-requires : tie.Need-put-items-requires
-put-items-requires c κs = search needs
-
-same-length : tie.Need-same-length
-same-length c = search needs
-
 returns : tie.Need-returns
 returns c =
     let a = c .before .before .before .before .before .before .before .before .before .args in
     c .before .before .put-items .ensures ∙ ap (λ (s : Spot). pushedAll s (entryItems (a .entry) (a .year))) (c .before .before .before .before .before .before .put-word .ensures) ∙ sym (pushed-all-append (spot (a .out .now) (a .at)) (wordText (a .entry .kind)) (entryItems (a .entry) (a .year)))
 
 pub write-line-spec : {M : Type 1} → statement M
-write-line-spec = tie.close (tie.spec put-word-requires put-items-requires same-length returns)
+write-line-spec = tie.close
+    (tie.spec
+    (λ c κs. search needs) (λ c κs. search needs) (λ c. search needs) returns)

@@ -8,18 +8,11 @@ use borrow.Author.Needs.{needs}
 use Rattle.listing.proofs.heading.Statement.{statement}
 use Rattle.listing.proofs.heading.Tie as tie
 
-empty-requires : tie.Need-empty-requires
-empty-requires c κs = search needs
-
-slice-aggregate-with-words : tie.Need-slice-aggregate-with-words
-slice-aggregate-with-words c = search needs
-
-with-words-requires : tie.Need-with-words-requires
-with-words-requires c κs = search needs
-
 returns : tie.Need-returns
 returns c = c .with-words .ensures ∙ ap (λ (t : Text). pushedAll t headingText) (c .before .before .empty .ensures) ∙ heading-fits
 
 pub heading-spec : {M : Type 1} → statement M
 heading-spec =
-    tie.close (tie.spec empty-requires slice-aggregate-with-words with-words-requires returns)
+    tie.close
+    (tie.spec
+    (λ c κs. search needs) (λ c. search needs) (λ c κs. search needs) returns)

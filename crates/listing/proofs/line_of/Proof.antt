@@ -22,23 +22,11 @@ sound c = sym (c .before .sound .ensures) ∙ not-false _ (c .if1 .left)
 known : (c : tie.Else2) → elementListed (c .before .before .before .before .before .args .code) ≡ true
 known c = sym (c .before .is-element .ensures) ∙ not-false _ (c .if2 .left)
 
-sound-requires : tie.Need-sound-requires
-sound-requires c κs = search needs
-
-empty-requires : tie.Need-empty-requires
-empty-requires c κs = search needs
-
 returns : tie.Need-returns
 returns c =
     let a = c .before .before .before .before .args in
     ap (λ (t : Text). record { answer = 1; text = t }) (c .empty .ensures) ∙
     sym (unsound-no-line (a .table) (a .code) (a .name .now) (sym (c .before .before .sound .ensures) ∙ not-true _ (c .before .if1 .taken)))
-
-is-element-requires : tie.Need-is-element-requires
-is-element-requires c κs = search needs
-
-empty-requires-2 : tie.Need-empty-requires-2
-empty-requires-2 c κs = search needs
 
 returns-2 : tie.Need-returns-2
 returns-2 c =
@@ -48,9 +36,6 @@ returns-2 c =
     (unknown-no-line (a .table) (a .code) (a .name .now) (sound (c .before .before .before))
     (sym (c .before .before .is-element .ensures) ∙ not-true _ (c .before .if2 .taken)))
 
-row-of-requires : tie.Need-row-of-requires
-row-of-requires c κs = search needs
-
 has-row : (c : tie.After-row-of) → c .row-of .result < 62
 has-row c = rw (c .row-of .ensures) (listed-row (c .before .before .before .before .before .before .before .args .code) (known (c .before .before)))
 
@@ -59,54 +44,6 @@ mul-row c = let l = has-row c in omega arith
 
 array-copy-out-row : tie.Need-array-copy-out-row
 array-copy-out-row c = has-row c
-
-empty-requires-3 : tie.Need-empty-requires-3
-empty-requires-3 c κs = search needs
-
-with-number-requires : tie.Need-with-number-requires
-with-number-requires c κs = search needs
-
-with-byte-requires : tie.Need-with-byte-requires
-with-byte-requires c κs = search needs
-
-with-words-requires : tie.Need-with-words-requires
-with-words-requires c κs = search needs
-
-with-byte-requires-2 : tie.Need-with-byte-requires-2
-with-byte-requires-2 c κs = search needs
-
-cast-with-number : tie.Need-cast-with-number
-cast-with-number c = search needs
-
-with-number-requires-2 : tie.Need-with-number-requires-2
-with-number-requires-2 c κs = search needs
-
-with-byte-requires-3 : tie.Need-with-byte-requires-3
-with-byte-requires-3 c κs = search needs
-
-with-per-requires : tie.Need-with-per-requires
-with-per-requires c κs = search needs
-
-rate-of-requires : tie.Need-rate-of-requires
-rate-of-requires c κs = search needs
-
-shown-rate-requires : tie.Need-shown-rate-requires
-shown-rate-requires c κs = search needs
-
-with-figure-requires : tie.Need-with-figure-requires
-with-figure-requires c κs = search needs
-
-mean-of-requires : tie.Need-mean-of-requires
-mean-of-requires c κs = search needs
-
-shown-mean-requires : tie.Need-shown-mean-requires
-shown-mean-requires c κs = search needs
-
-with-figure-requires-2 : tie.Need-with-figure-requires-2
-with-figure-requires-2 c κs = search needs
-
-with-byte-requires-4 : tie.Need-with-byte-requires-4
-with-byte-requires-4 c κs = search needs
 
 returns-3 : tie.Need-returns-3
 returns-3 c =
@@ -132,29 +69,8 @@ pub line-of-spec : {M : Type 1} → statement M
 line-of-spec =
     tie.close
     (tie.spec
-    sound-requires
-    empty-requires
-    returns
-    is-element-requires
-    empty-requires-2
-    returns-2
-    row-of-requires
-    mul-row
-    array-copy-out-row
-    empty-requires-3
-    with-number-requires
-    with-byte-requires
-    with-words-requires
-    with-byte-requires-2
-    cast-with-number
-    with-number-requires-2
-    with-byte-requires-3
-    with-per-requires
-    rate-of-requires
-    shown-rate-requires
-    with-figure-requires
-    mean-of-requires
-    shown-mean-requires
-    with-figure-requires-2
-    with-byte-requires-4
-    returns-3)
+    (λ c κs. search needs) (λ c κs. search needs) returns (λ c κs. search needs) (λ c κs. search needs) returns-2 (λ c κs. search needs)
+    mul-row array-copy-out-row (λ c κs. search needs) (λ c κs. search needs) (λ c κs. search needs) (λ c κs. search needs)
+    (λ c κs. search needs) (λ c. search needs) (λ c κs. search needs) (λ c κs. search needs) (λ c κs. search needs) (λ c κs. search needs)
+    (λ c κs. search needs) (λ c κs. search needs) (λ c κs. search needs) (λ c κs. search needs) (λ c κs. search needs)
+    (λ c κs. search needs) returns-3)

@@ -5,18 +5,6 @@ use Rattle.listing.proofs.with_figure.Statement.{statement}
 use Rattle.listing.proofs.with_figure.Tie as tie
 use Rattle.listing.proofs.with_figure.Reads as reads
 
-with-byte-requires : tie.Need-with-byte-requires
-with-byte-requires c κs = search needs
-
-with-fraction-requires : tie.Need-with-fraction-requires
-with-fraction-requires c κs = search needs
-
-with-byte-requires-2 : tie.Need-with-byte-requires-2
-with-byte-requires-2 c κs = search needs
-
-with-six-requires : tie.Need-with-six-requires
-with-six-requires c κs = search needs
-
 returns : tie.Need-returns
 returns c =
     simp (
@@ -31,8 +19,4 @@ pub with-figure-spec : {M : Type 1} → statement M
 with-figure-spec =
     tie.close
     (tie.spec
-    with-byte-requires
-    with-fraction-requires
-    with-byte-requires-2
-    with-six-requires
-    returns)
+    (λ c κs. search needs) (λ c κs. search needs) (λ c κs. search needs) (λ c κs. search needs) returns)

@@ -4,28 +4,13 @@ use borrow.Author.Needs.{needs}
 use Rattle.listing.proofs.with_per.Statement.{statement}
 use Rattle.listing.proofs.with_per.Tie as tie
 
-with-byte-requires : tie.Need-with-byte-requires
-with-byte-requires c κs = search needs
-
 returns : tie.Need-returns
 returns c = rw (eq-eqb (c .before .before .args .stock) 0 (c .before .if1 .taken)) (c .with-byte .ensures)
-
-slice-aggregate-with-words : tie.Need-slice-aggregate-with-words
-slice-aggregate-with-words c = search needs
-
-with-words-requires : tie.Need-with-words-requires
-with-words-requires c κs = search needs
 
 returns-2 : tie.Need-returns-2
 returns-2 c =
     let s = c .before .before .before .before .args .stock in
     rw (ne-eqb s 0 (c .before .before .before .if1 .left), eq-eqb s 2 (c .before .before .if2 .taken)) (c .with-words .ensures)
-
-slice-aggregate-with-words-2 : tie.Need-slice-aggregate-with-words-2
-slice-aggregate-with-words-2 c = search needs
-
-with-words-requires-2 : tie.Need-with-words-requires-2
-with-words-requires-2 c κs = search needs
 
 returns-3 : tie.Need-returns-3
 returns-3 c =
@@ -36,11 +21,4 @@ pub with-per-spec : {M : Type 1} → statement M
 with-per-spec =
     tie.close
     (tie.spec
-    with-byte-requires
-    returns
-    slice-aggregate-with-words
-    with-words-requires
-    returns-2
-    slice-aggregate-with-words-2
-    with-words-requires-2
-    returns-3)
+    (λ c κs. search needs) returns (λ c. search needs) (λ c κs. search needs) returns-2 (λ c. search needs) (λ c κs. search needs) returns-3)

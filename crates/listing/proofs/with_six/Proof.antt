@@ -5,30 +5,6 @@ use Rattle.listing.proofs.with_six.Statement.{statement}
 use Rattle.listing.proofs.with_six.Tie as tie
 use Rattle.listing.proofs.with_six.Reads as reads
 
-enum-known-s : tie.Need-enum-known-s
-enum-known-s c = search needs
-
-with-number-requires : tie.Need-with-number-requires
-with-number-requires c κs = search needs
-
-with-byte-requires : tie.Need-with-byte-requires
-with-byte-requires c κs = search needs
-
-with-two-requires : tie.Need-with-two-requires
-with-two-requires c κs = search needs
-
-with-two-requires-2 : tie.Need-with-two-requires-2
-with-two-requires-2 c κs = search needs
-
-with-two-requires-3 : tie.Need-with-two-requires-3
-with-two-requires-3 c κs = search needs
-
-enum-told : tie.Need-enum-told
-enum-told c = search needs
-
-with-byte-requires-2 : tie.Need-with-byte-requires-2
-with-byte-requires-2 c κs = search needs
-
 returns : tie.Need-returns
 returns c =
     rw (c .before .before .before .before .before .before .before .before .s .given .1)
@@ -48,13 +24,5 @@ pub with-six-spec : {M : Type 1} → statement M
 with-six-spec =
     tie.close
     (tie.spec
-    enum-known-s
-    with-number-requires
-    with-byte-requires
-    with-two-requires
-    with-two-requires-2
-    with-two-requires-3
-    enum-told
-    with-byte-requires-2
-    returns
-    returns-2)
+    (λ c. search needs) (λ c κs. search needs) (λ c κs. search needs) (λ c κs. search needs) (λ c κs. search needs) (λ c κs. search needs)
+    (λ c. search needs) (λ c κs. search needs) returns returns-2)

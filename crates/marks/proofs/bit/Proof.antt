@@ -4,11 +4,10 @@ use Rattle.marks.proofs.BitLaws.{table-of-powers}
 use Rattle.marks.proofs.bit.Statement.{statement}
 use Rattle.marks.proofs.bit.Tie as tie
 
-array-read-result : tie.Need-array-read-result
-array-read-result c = search needs
-
 returns : tie.Need-returns
 returns c = table-of-powers (c .args .k) (c .pre)
 
 pub bit-spec : {M : Type 1} → statement M
-bit-spec = tie.close (tie.spec array-read-result returns)
+bit-spec = tie.close
+    (tie.spec
+    (λ c. search needs) returns)

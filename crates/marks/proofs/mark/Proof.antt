@@ -11,9 +11,6 @@ use Rattle.marks.proofs.MarkLaws.{markedWith-zero, markedWith-past, mar
 use Rattle.marks.proofs.mark.Statement.{statement}
 use Rattle.marks.proofs.mark.Tie as tie
 
-cast-at : tie.Need-cast-at
-cast-at c = search needs
-
 returns : tie.Need-returns
 returns c =
     let m = c .before .before .args .map .now in
@@ -23,21 +20,6 @@ returns-2 : tie.Need-returns-2
 returns-2 c =
     let a = c .before .before .before .args in
     sym (markedWith-past (a .map .now) (a .number) (c .if2 .taken))
-
-slice-read-byte : tie.Need-slice-read-byte
-slice-read-byte c = search needs
-
-cast-bit : tie.Need-cast-bit
-cast-bit c = search needs
-
-bit-requires : tie.Need-bit-requires
-bit-requires c κs = search needs
-
-is-marked-requires : tie.Need-is-marked-requires
-is-marked-requires c κs = search needs
-
-same-length : tie.Need-same-length
-same-length c = search needs
 
 returns-3 : tie.Need-returns-3
 returns-3 c =
@@ -51,12 +33,6 @@ add-map c =
     let f = marking-fits (a .map .now) (a .number) l (sym (c .before .is-marked .ensures) ∙ c .if3 .left) in
     record { fits = rw (c .before .before .before .bit .ensures) f }
 
-slice-write-map : tie.Need-slice-write-map
-slice-write-map c = search needs
-
-same-length-2 : tie.Need-same-length-2
-same-length-2 c = search needs
-
 returns-4 : tie.Need-returns-4
 returns-4 c =
     let e = c .before .before .before .before .before .before in
@@ -68,16 +44,5 @@ pub mark-spec : {M : Type 1} → statement M
 mark-spec =
     tie.close
     (tie.spec
-    cast-at
-    returns
-    returns-2
-    slice-read-byte
-    cast-bit
-    bit-requires
-    is-marked-requires
-    same-length
-    returns-3
-    add-map
-    slice-write-map
-    same-length-2
-    returns-4)
+    (λ c. search needs) returns returns-2 (λ c. search needs) (λ c. search needs) (λ c κs. search needs) (λ c κs. search needs)
+    (λ c. search needs) returns-3 add-map (λ c. search needs) (λ c. search needs) returns-4)

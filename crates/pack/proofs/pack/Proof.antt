@@ -7,9 +7,6 @@ use borrow.Author.Needs.{needs}
 use Rattle.pack.proofs.pack.Statement.{statement}
 use Rattle.pack.proofs.pack.Tie as tie
 
-is-whole-requires : tie.Need-is-whole-requires
-is-whole-requires c κs = search needs
-
 returns : tie.Need-returns
 returns c =
     let a = c .before .before .before .before .args in
@@ -20,9 +17,6 @@ put-sheet-requires : tie.Need-put-sheet-requires
 put-sheet-requires c κs =
     let whole = sym (c .before .before .before .is-whole .ensures) ∙ not-false (c .before .before .before .is-whole .result) (c .before .before .if1 .left) in
     sheet-long (c .before .before .before .before .before .before .args .entry) whole (c .before .if2 .taken)
-
-same-length : tie.Need-same-length
-same-length c = search needs
 
 returns-2 : tie.Need-returns-2
 returns-2 c =
@@ -35,9 +29,6 @@ put-simple-requires c κs =
     let whole = sym (c .before .before .before .before .is-whole .ensures) ∙ not-false (c .before .before .before .before .is-whole .result) (c .before .before .before .if1 .left) in
     simple-long (c .before .before .before .before .before .before .before .args .entry) whole (c .before .if3 .taken)
 
-same-length-2 : tie.Need-same-length-2
-same-length-2 c = search needs
-
 returns-3 : tie.Need-returns-3
 returns-3 c =
     let a = c .before .before .before .before .before .before .before .before .before .before .args in
@@ -49,20 +40,11 @@ put-stepped-requires c κs =
     let whole = sym (c .before .before .before .before .before .is-whole .ensures) ∙ not-false (c .before .before .before .before .before .is-whole .result) (c .before .before .before .before .if1 .left) in
     stepped-long (c .before .before .before .before .before .before .before .before .args .entry) whole (c .before .if4 .taken)
 
-same-length-3 : tie.Need-same-length-3
-same-length-3 c = search needs
-
 returns-4 : tie.Need-returns-4
 returns-4 c =
     let a = c .before .before .before .before .before .before .before .before .before .before .before .args in
     let whole = sym (c .before .before .before .before .before .before .before .before .is-whole .ensures) ∙ not-false (c .before .before .before .before .before .before .before .before .is-whole .result) (c .before .before .before .before .before .before .before .if1 .left) in
     c .before .before .put-stepped .ensures ∙ ap (pushedAll (spot (a .out .now) (a .at))) (sym (packed-stepped (a .entry) whole (c .before .before .before .before .if4 .taken)))
-
-put-bytes-requires : tie.Need-put-bytes-requires
-put-bytes-requires c κs = search needs
-
-same-length-4 : tie.Need-same-length-4
-same-length-4 c = search needs
 
 returns-5 : tie.Need-returns-5
 returns-5 c =
@@ -74,17 +56,5 @@ pub pack-spec : {M : Type 1} → statement M
 pack-spec =
     tie.close
     (tie.spec
-    is-whole-requires
-    returns
-    put-sheet-requires
-    same-length
-    returns-2
-    put-simple-requires
-    same-length-2
-    returns-3
-    put-stepped-requires
-    same-length-3
-    returns-4
-    put-bytes-requires
-    same-length-4
-    returns-5)
+    (λ c κs. search needs) returns put-sheet-requires (λ c. search needs) returns-2 put-simple-requires (λ c. search needs) returns-3
+    put-stepped-requires (λ c. search needs) returns-4 (λ c κs. search needs) (λ c. search needs) returns-5)

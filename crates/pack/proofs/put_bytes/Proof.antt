@@ -16,9 +16,6 @@ Inv-loop out₀ at count values to₀ k₀ out to k =
 abbrev μ-loop : tie.MeasureT-loop
 μ-loop out₀ at count values to₀ k₀ out to k = 261 - k
 
-loop-holds : tie.Need-loop-holds Inv-loop μ-loop
-loop-holds c = search needs
-
 same-length : tie.Need-same-length Inv-loop μ-loop
 same-length c = c .before .before .loop .inv .2
 
@@ -27,24 +24,6 @@ returns c =
     let a = c .before .before .before .before .args in
     let l = c .before .before .loop in
     sym (l .inv .0 ∙ bytes-none (spot (l .out) (l .to)) (l .k) (a .count) (a .t3) (search needs))
-
-mul-put : tie.Need-mul-put Inv-loop μ-loop
-mul-put c = search needs
-
-array-read-put : tie.Need-array-read-put Inv-loop μ-loop
-array-read-put c = search needs
-
-cast-put : tie.Need-cast-put Inv-loop μ-loop
-cast-put c = search needs
-
-put-requires : tie.Need-put-requires Inv-loop μ-loop
-put-requires c κs = search needs
-
-add-k : tie.Need-add-k Inv-loop μ-loop
-add-k c = search needs
-
-loop-less : tie.Need-loop-less Inv-loop μ-loop
-loop-less c = search needs
 
 loop-again : tie.Need-loop-again Inv-loop μ-loop
 loop-again c =
@@ -68,17 +47,5 @@ pub put-bytes-spec : {M : Type 1} → statement M
 put-bytes-spec =
     tie.close
     (tie.spec
-    Inv-loop
-    μ-loop
-    loop-holds
-    same-length
-    returns
-    mul-put
-    array-read-put
-    cast-put
-    put-requires
-    add-k
-    loop-less
-    loop-again
-    same-length-2
-    returns-2)
+    Inv-loop μ-loop (λ c. search needs) same-length returns (λ c. search needs) (λ c. search needs) (λ c. search needs)
+    (λ c κs. search needs) (λ c. search needs) (λ c. search needs) loop-again same-length-2 returns-2)

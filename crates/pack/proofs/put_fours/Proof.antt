@@ -3,8 +3,8 @@ use Prim.Native.Nat.{_+_, _-_}
 use mathlib.Core.Path.{_≡_, ap, sym, _∙_}
 use lib.ListN.{length, take, drop}
 use borrow.Author.Needs.{needs}
+use Rattle.codec.specs.Codec.{fourEach}
 use Rattle.pen.specs.Pen.{Spot, spot, pushedAll}
-use Rattle.pack.specs.Pack.{fourEach}
 use Rattle.pack.proofs.PackLaws.{fours-next, fours-none}
 use Rattle.pack.proofs.put_fours.Statement.{statement}
 use Rattle.pack.proofs.put_fours.Tie as tie
@@ -16,9 +16,6 @@ Inv-loop out₀ at from count values to₀ k₀ out to k =
 abbrev μ-loop : tie.MeasureT-loop
 μ-loop out₀ at from count values to₀ k₀ out to k = 261 - k
 
-loop-holds : tie.Need-loop-holds Inv-loop μ-loop
-loop-holds c = search needs
-
 same-length : tie.Need-same-length Inv-loop μ-loop
 same-length c = c .before .before .loop .inv .2
 
@@ -27,21 +24,6 @@ returns c =
     let a = c .before .before .before .before .args in
     let l = c .before .before .loop in
     sym (l .inv .0 ∙ fours-none (spot (l .out) (l .to)) (l .k) (a .count) (a .t3) (search needs))
-
-mul-put-le4 : tie.Need-mul-put-le4 Inv-loop μ-loop
-mul-put-le4 c = search needs
-
-array-read-put-le4 : tie.Need-array-read-put-le4 Inv-loop μ-loop
-array-read-put-le4 c = search needs
-
-put-le4-requires : tie.Need-put-le4-requires Inv-loop μ-loop
-put-le4-requires c κs = search needs
-
-add-k : tie.Need-add-k Inv-loop μ-loop
-add-k c = search needs
-
-loop-less : tie.Need-loop-less Inv-loop μ-loop
-loop-less c = search needs
 
 loop-again : tie.Need-loop-again Inv-loop μ-loop
 loop-again c =
@@ -65,16 +47,5 @@ pub put-fours-spec : {M : Type 1} → statement M
 put-fours-spec =
     tie.close
     (tie.spec
-    Inv-loop
-    μ-loop
-    loop-holds
-    same-length
-    returns
-    mul-put-le4
-    array-read-put-le4
-    put-le4-requires
-    add-k
-    loop-less
-    loop-again
-    same-length-2
-    returns-2)
+    Inv-loop μ-loop (λ c. search needs) same-length returns (λ c. search needs) (λ c. search needs) (λ c κs. search needs)
+    (λ c. search needs) (λ c. search needs) loop-again same-length-2 returns-2)

@@ -1,27 +1,13 @@
 -- The frame, the year and the counts, one behind the other, are the sheet's bytes (`sheet-laid`). Assumes nothing.
 use mathlib.Core.Path.{ap, _∙_}
 use lib.ListN.{take, drop, getD}
-use Rattle.pen.specs.Pen.{Spot, spot, pushedAll, le2}
-use Rattle.pack.specs.Pack.{fourEach}
+use Rattle.wire.specs.Numbers.{le2}
+use Rattle.codec.specs.Codec.{fourEach}
+use Rattle.pen.specs.Pen.{Spot, spot, pushedAll}
 use Rattle.pack.proofs.PackLaws.{sheet-laid}
 use borrow.Author.Needs.{needs}
 use Rattle.pack.proofs.put_sheet.Statement.{statement}
 use Rattle.pack.proofs.put_sheet.Tie as tie
-
-put-frame-requires : tie.Need-put-frame-requires
-put-frame-requires c κs = search needs
-
-array-read-put-le2 : tie.Need-array-read-put-le2
-array-read-put-le2 c = search needs
-
-put-le2-requires : tie.Need-put-le2-requires
-put-le2-requires c κs = search needs
-
-put-fours-requires : tie.Need-put-fours-requires
-put-fours-requires c κs = search needs
-
-same-length : tie.Need-same-length
-same-length c = search needs
 
 returns : tie.Need-returns
 returns c =
@@ -33,9 +19,4 @@ pub put-sheet-spec : {M : Type 1} → statement M
 put-sheet-spec =
     tie.close
     (tie.spec
-    put-frame-requires
-    array-read-put-le2
-    put-le2-requires
-    put-fours-requires
-    same-length
-    returns)
+    (λ c κs. search needs) (λ c. search needs) (λ c κs. search needs) (λ c κs. search needs) (λ c. search needs) returns)

@@ -9,17 +9,10 @@ use Rattle.pen.proofs.put.Tie as tie
 returns : tie.Need-returns
 returns c = let a = c .before .args in sym (full-stays (spot (a .out .now) (a .at)) (a .b) (c .if1 .taken))
 
-slice-write-out : tie.Need-slice-write-out
-slice-write-out c = search needs
-
-add-result : tie.Need-add-result
-add-result c = search needs
-
-same-length : tie.Need-same-length
-same-length c = search needs
-
 returns-2 : tie.Need-returns-2
 returns-2 c = let a = c .before .args in sym (room-takes (spot (a .out .now) (a .at)) (a .b) (c .if1 .left))
 
 pub put-spec : {M : Type 1} → statement M
-put-spec = tie.close (tie.spec returns slice-write-out add-result same-length returns-2)
+put-spec = tie.close
+    (tie.spec
+    returns (λ c. search needs) (λ c. search needs) (λ c. search needs) returns-2)

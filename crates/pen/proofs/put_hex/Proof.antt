@@ -7,27 +7,6 @@ use borrow.Author.Needs.{needs}
 use Rattle.pen.proofs.put_hex.Statement.{statement}
 use Rattle.pen.proofs.put_hex.Tie as tie
 
-cast-hex-digit : tie.Need-cast-hex-digit
-cast-hex-digit c = search needs
-
-hex-digit-requires : tie.Need-hex-digit-requires
-hex-digit-requires c κs = search needs
-
-put-requires : tie.Need-put-requires
-put-requires c κs = search needs
-
-cast-hex-digit-2 : tie.Need-cast-hex-digit-2
-cast-hex-digit-2 c = search needs
-
-hex-digit-requires-2 : tie.Need-hex-digit-requires-2
-hex-digit-requires-2 c κs = search needs
-
-put-requires-2 : tie.Need-put-requires-2
-put-requires-2 c κs = search needs
-
-same-length : tie.Need-same-length
-same-length c = search needs
-
 returns : tie.Need-returns
 returns c =
     let a = c .before .before .before .before .before .before .before .before .before .before .before .args in
@@ -43,11 +22,5 @@ pub put-hex-spec : {M : Type 1} → statement M
 put-hex-spec =
     tie.close
     (tie.spec
-    cast-hex-digit
-    hex-digit-requires
-    put-requires
-    cast-hex-digit-2
-    hex-digit-requires-2
-    put-requires-2
-    same-length
-    returns)
+    (λ c. search needs) (λ c κs. search needs) (λ c κs. search needs) (λ c. search needs) (λ c κs. search needs) (λ c κs. search needs)
+    (λ c. search needs) returns)

@@ -6,21 +6,6 @@ use borrow.Author.Needs.{needs}
 use Rattle.pen.proofs.put_le2.Statement.{statement}
 use Rattle.pen.proofs.put_le2.Tie as tie
 
-cast-put : tie.Need-cast-put
-cast-put c = search needs
-
-put-requires : tie.Need-put-requires
-put-requires c κs = search needs
-
-cast-put-2 : tie.Need-cast-put-2
-cast-put-2 c = search needs
-
-put-requires-2 : tie.Need-put-requires-2
-put-requires-2 c κs = search needs
-
-same-length : tie.Need-same-length
-same-length c = search needs
-
 returns : tie.Need-returns
 returns c =
     let a = c .before .before .before .before .before .before .before .before .before .args in
@@ -28,4 +13,6 @@ returns c =
 
 pub put-le2-spec : {M : Type 1} → statement M
 put-le2-spec =
-    tie.close (tie.spec cast-put put-requires cast-put-2 put-requires-2 same-length returns)
+    tie.close
+    (tie.spec
+    (λ c. search needs) (λ c κs. search needs) (λ c. search needs) (λ c κs. search needs) (λ c. search needs) returns)

@@ -8,9 +8,9 @@ use Rattle.base.proofs.TestLaws.{and-right, or-left, or-right}
 use Rattle.wire.specs.Frame.{framed, kindOf}
 use Rattle.ledger.specs.Sound.{soundLedger}
 use Rattle.slot.specs.Sound.{slotSound}
-use Rattle.roll.specs.Roll.{rollSound}
-use Rattle.plan.specs.Rules.{lookBy, byMessage, anyUnsound}
-use Rattle.plan.specs.Plan.{planAt}
+use Rattle.roll.specs.Inside.{rollSound}
+use Rattle.plan.specs.Inside.{lookBy, planAt}
+use Rattle.plan.specs.Rules.{byMessage, anyUnsound}
 use Rattle.plan.proofs.PlanLaws.{plan-unsound, plan-unframed, plan-by-kind, refused-by, no-message}
 use borrow.Author.Needs.{needs}
 use Rattle.plan.proofs.decide.Statement.{statement}
@@ -34,30 +34,12 @@ ledger-sound c =
     let a = c .before .before .before .before .before .before .args in
     not-false _ (or-right (not (eqb (length (a .map .now)) 8192)) _ (or-left (not (eqb (length (a .map .now)) 8192) || not (soundLedger (a .ledger))) _ (fine c)))
 
-holds-requires : tie.Need-holds-requires
-holds-requires c κs = search needs
-
-sound-requires : tie.Need-sound-requires
-sound-requires c κs = search needs
-
-sound-requires-2 : tie.Need-sound-requires-2
-sound-requires-2 c κs = search needs
-
-refuse-requires : tie.Need-refuse-requires
-refuse-requires c κs = search needs
-
 returns : tie.Need-returns
 returns c =
     let a = c .before .before .before .before .before .before .before .args in
     let s = a .bytes .now in
     c .refuse .ensures ∙
     sym (plan-unsound (lookBy (a .slots) (a .roll) (a .slot) s) (a .slots) (a .ledger) (a .map .now) s (sym (tested (c .before .before)) ∙ c .before .if1 .taken))
-
-is-framed-requires : tie.Need-is-framed-requires
-is-framed-requires c κs = search needs
-
-refuse-requires-2 : tie.Need-refuse-requires-2
-refuse-requires-2 c κs = search needs
 
 returns-2 : tie.Need-returns-2
 returns-2 c =
@@ -66,12 +48,6 @@ returns-2 c =
     let f : framed s ≡ false = sym (c .before .before .is-framed .ensures) ∙ not-true _ (c .before .if2 .taken) in
     c .refuse2 .ensures ∙
     sym (plan-unframed (lookBy (a .slots) (a .roll) (a .slot) s) (a .slots) (a .ledger) (a .map .now) s (fine (c .before .before .before)) f)
-
-kind-of-requires : tie.Need-kind-of-requires
-kind-of-requires c κs = search needs
-
-plan-open-requires : tie.Need-plan-open-requires
-plan-open-requires c κs = search needs
 
 returns-3 : tie.Need-returns-3
 returns-3 c =
@@ -112,9 +88,6 @@ returns-5 c =
     ap (λ n. planAt n look (a .slots) (a .ledger) (a .map .now) s) (sym k) ∙
     sym (plan-by-kind look (a .slots) (a .ledger) (a .map .now) s (fine (c .before .before .before .before .before .before .before)) f)
 
-refuse-requires-3 : tie.Need-refuse-requires-3
-refuse-requires-3 c κs = search needs
-
 returns-6 : tie.Need-returns-6
 returns-6 c =
     let a = c .before .before .before .before .before .before .before .before .before .before .before .before .before .args in
@@ -132,20 +105,6 @@ pub decide-spec : {M : Type 1} → statement M
 decide-spec =
     tie.close
     (tie.spec
-    holds-requires
-    sound-requires
-    sound-requires-2
-    refuse-requires
-    returns
-    is-framed-requires
-    refuse-requires-2
-    returns-2
-    kind-of-requires
-    plan-open-requires
-    returns-3
-    plan-step-requires
-    returns-4
-    plan-close-requires
-    returns-5
-    refuse-requires-3
-    returns-6)
+    (λ c κs. search needs) (λ c κs. search needs) (λ c κs. search needs) (λ c κs. search needs) returns (λ c κs. search needs)
+    (λ c κs. search needs) returns-2 (λ c κs. search needs) (λ c κs. search needs) returns-3 plan-step-requires returns-4
+    plan-close-requires returns-5 (λ c κs. search needs) returns-6)

@@ -8,9 +8,9 @@ use lib.Dec.{leb, eqb}
 use borrow.Author.Tests.{eq-eqb, ne-eqb, eqb-false, le-leb, lt-leb}
 use Rattle.verdict.specs.declared.Verdict.{Verdict}
 use Rattle.ledger.specs.Ledger.{added}
-use Rattle.ledger.specs.Sound.{Fits}
-use Rattle.plan.specs.Rules.{lookBy}
-use Rattle.plan.specs.Plan.{refusedPlan, answerAt}
+use Rattle.ledger.specs.Inside.{Fits}
+use Rattle.plan.specs.Inside.{lookBy, answerAt}
+use Rattle.plan.specs.Plan.{refusedPlan}
 use Rattle.plan.proofs.PlanLaws.{refused-by, at-refused, at-accepted, close-answer, close-fits, event-answer}
 use borrow.Author.Needs.{needs}
 use Rattle.plan.proofs.plan_close.Statement.{statement}
@@ -40,30 +40,12 @@ answer-is c =
     (λ i. cond (not (a .ledger .sheet .there)) 5 (cond (eqb (c .before .before .before .before .before .before .before .before .before .before .u16-at .ensures i) 0) 7 (cond (leb 32 (c .before .before .before .before .before .named .ensures i)) 8 (cond (eqb (count i) 0 || not (eqb (count i) (a .slot .steps))) 9 (rest i))))) ∙
     sym (close-answer (lookBy (a .slots) (a .roll) (a .slot) s) (a .ledger) (a .map .now) s (ap not (eq-eqb _ _ (c .before .before .before .before .before .before .before .before .before .before .before .if1 .left))))
 
-refuse-requires : tie.Need-refuse-requires
-refuse-requires c κs = search needs
-
 returns : tie.Need-returns
 returns c =
     let a = c .before .before .before .before .args in
     let s = a .bytes .now in
     c .refuse .ensures ∙
     sym (refused-by 18 (lookBy (a .slots) (a .roll) (a .slot) s) (a .slots) (a .ledger) (a .map .now) s 4 (refl, ap not (ne-eqb _ _ (c .before .if1 .taken))) (eqb-false 4 0 refl))
-
-u16-at-requires : tie.Need-u16-at-requires
-u16-at-requires c κs = search needs
-
-byte-at-requires : tie.Need-byte-at-requires
-byte-at-requires c κs = search needs
-
-named-requires : tie.Need-named-requires
-named-requires c κs = search needs
-
-first-of-named-requires : tie.Need-first-of-named-requires
-first-of-named-requires c κs = search needs
-
-refuse-requires-2 : tie.Need-refuse-requires-2
-refuse-requires-2 c κs = search needs
 
 returns-2 : tie.Need-returns-2
 returns-2 c =
@@ -74,9 +56,6 @@ returns-2 c =
     ap (refusedPlan (a .ledger) (a .slots)) e ∙
     sym (at-refused 18 (lookBy (a .slots) (a .roll) (a .slot) s) (a .slots) (a .ledger) (a .map .now) s _ refl (λ z. c .before .if3 .taken (e ∙ z)))
 
-accept-requires : tie.Need-accept-requires
-accept-requires c κs = search needs
-
 add-requires : tie.Need-add-requires
 add-requires c κs =
     let a = c .before .before .before .before .before .before .before .before .before .before .before .before .before .before .before .before .args in
@@ -85,32 +64,21 @@ add-requires c κs =
     subst⁻¹ (Fits (a .ledger)) (c .accept .ensures)
     (close-fits (lookBy (a .slots) (a .roll) (a .slot) s) (a .ledger) (a .map .now) s (c .before .before .before .before .before .before .before .before .before .before .before .before .before .before .before .before .pre .0) (c .before .before .before .before .before .before .before .before .before .before .before .before .before .before .before .before .pre .1) z)
 
-free-requires : tie.Need-free-requires
-free-requires c κs = search needs
-
 returns-3 : tie.Need-returns-3
 returns-3 c =
-    let a = c .before .before .before .before .before .before .before .before .before .before .before .before .before .before .before .before .before .before .args in
+    let adding = c .before .before in
+    let decided = adding .before .before in
+    let a = decided .before .before .before .before .before .before .before .before .before .before .before .before .before .before .before .args in
     let s = a .bytes .now in
-    let v = c .before .before .accept .ensures in
-    let answer = c .before .add .ensures .0 ∙ ap (λ (x : Verdict). x .answer) v ∙ event-answer (a .ledger .sheet) (a .slot .head) (a .slot .last) (a .slot .figures) in
-    let next = c .before .add .ensures .1 ∙ ap (added (a .ledger)) v in
-    (λ i. record { taken = record { answer = answer i; ledger = next i }; at = c .before .before .before .before .before .before .before .before .before .named .ensures i; slot = c .free .ensures i; number = 0 }) ∙
-    sym (at-accepted 18 (lookBy (a .slots) (a .roll) (a .slot) s) (a .slots) (a .ledger) (a .map .now) s (sym (answer-is (c .before .before .before .before)) ∙ c .before .before .before .if3 .left))
+    let v = adding .before .accept .ensures in
+    let answer = adding .add .ensures .0 ∙ ap (λ (x : Verdict). x .answer) v ∙ event-answer (a .ledger .sheet) (a .slot .head) (a .slot .last) (a .slot .figures) in
+    let next = adding .add .ensures .1 ∙ ap (added (a .ledger)) v in
+    (λ i. record { served = record { answer = answer i; ledger = next i }; at = decided .before .before .before .before .before .before .named .ensures i; slot = c .free .ensures i; number = 0 }) ∙
+    sym (at-accepted 18 (lookBy (a .slots) (a .roll) (a .slot) s) (a .slots) (a .ledger) (a .map .now) s (sym (answer-is (decided .before)) ∙ decided .if3 .left))
 
 pub plan-close-spec : {M : Type 1} → statement M
 plan-close-spec =
     tie.close
     (tie.spec
-    refuse-requires
-    returns
-    u16-at-requires
-    byte-at-requires
-    named-requires
-    first-of-named-requires
-    refuse-requires-2
-    returns-2
-    accept-requires
-    add-requires
-    free-requires
-    returns-3)
+    (λ c κs. search needs) returns (λ c κs. search needs) (λ c κs. search needs) (λ c κs. search needs) (λ c κs. search needs)
+    (λ c κs. search needs) returns-2 (λ c κs. search needs) add-requires (λ c κs. search needs) returns-3)

@@ -10,8 +10,8 @@ use Rattle.fields.specs.declared.Head.{Head}
 use Rattle.fields.specs.Fields.{headIn}
 use Rattle.fields.specs.Tests.{headListed}
 use Rattle.slot.specs.Slot.{openedBy}
-use Rattle.plan.specs.Rules.{lookBy}
-use Rattle.plan.specs.Plan.{refusedPlan, answerAt}
+use Rattle.plan.specs.Inside.{lookBy, answerAt}
+use Rattle.plan.specs.Plan.{refusedPlan}
 use Rattle.plan.proofs.PlanLaws.{refused-by, at-refused, at-accepted, open-answer}
 use borrow.Author.Needs.{needs}
 use Rattle.plan.proofs.plan_open.Statement.{statement}
@@ -30,39 +30,12 @@ answer-is c =
     (λ i. cond (not (a .ledger .sheet .there)) 5 (cond (not (known i)) 7 (cond (leb (c .before .before .before .before .minutes-in .ensures i) (head i .t0)) 10 (cond (used i || ltb (passed i) 32) 14 (cond (leb 32 (c .before .before .before .before .before .before .before .place-of .ensures i)) 16 0))))) ∙
     sym (open-answer (lookBy (a .slots) (a .roll) (a .slot) s) (a .ledger) (a .map .now) s (ap not (eq-eqb _ _ (c .before .before .before .before .before .before .before .before .before .before .if1 .left))))
 
-refuse-requires : tie.Need-refuse-requires
-refuse-requires c κs = search needs
-
 returns : tie.Need-returns
 returns c =
     let a = c .before .before .before .before .args in
     let s = a .bytes .now in
     c .refuse .ensures ∙
     sym (refused-by 16 (lookBy (a .slots) (a .roll) (a .slot) s) (a .slots) (a .ledger) (a .map .now) s 4 (refl, ap not (ne-eqb _ _ (c .before .if1 .taken))) (eqb-false 4 0 refl))
-
-head-of-requires : tie.Need-head-of-requires
-head-of-requires c κs = search needs
-
-place-of-requires : tie.Need-place-of-requires
-place-of-requires c κs = search needs
-
-listed-requires : tie.Need-listed-requires
-listed-requires c κs = search needs
-
-minutes-in-requires : tie.Need-minutes-in-requires
-minutes-in-requires c κs = search needs
-
-is-marked-requires : tie.Need-is-marked-requires
-is-marked-requires c κs = search needs
-
-place-of-requires-2 : tie.Need-place-of-requires-2
-place-of-requires-2 c κs = search needs
-
-first-of-open-requires : tie.Need-first-of-open-requires
-first-of-open-requires c κs = search needs
-
-refuse-requires-2 : tie.Need-refuse-requires-2
-refuse-requires-2 c κs = search needs
 
 returns-2 : tie.Need-returns-2
 returns-2 c =
@@ -73,32 +46,18 @@ returns-2 c =
     ap (refusedPlan (a .ledger) (a .slots)) e ∙
     sym (at-refused 16 (lookBy (a .slots) (a .roll) (a .slot) s) (a .slots) (a .ledger) (a .map .now) s _ refl (λ z. c .before .if2 .taken (e ∙ z)))
 
-opened-requires : tie.Need-opened-requires
-opened-requires c κs = search needs
-
 returns-3 : tie.Need-returns-3
 returns-3 c =
     let a = c .before .before .before .before .before .before .before .before .before .before .before .before .before .before .before .args in
     let s = a .bytes .now in
     let head : c .before .before .before .before .before .before .before .before .before .before .before .head-of .result ≡ headIn s = c .before .before .before .before .before .before .before .before .before .before .before .head-of .ensures in
     let slot = c .opened .ensures ∙ ap openedBy head in
-    (λ i. record { taken = record { answer = 0; ledger = a .ledger }; at = c .before .before .before .before .before .before .before .before .before .place-of .ensures i; slot = slot i; number = head i .number }) ∙
+    (λ i. record { served = record { answer = 0; ledger = a .ledger }; at = c .before .before .before .before .before .before .before .before .before .place-of .ensures i; slot = slot i; number = head i .number }) ∙
     sym (at-accepted 16 (lookBy (a .slots) (a .roll) (a .slot) s) (a .slots) (a .ledger) (a .map .now) s (sym (answer-is (c .before .before)) ∙ c .before .if2 .left))
 
 pub plan-open-spec : {M : Type 1} → statement M
 plan-open-spec =
     tie.close
     (tie.spec
-    refuse-requires
-    returns
-    head-of-requires
-    place-of-requires
-    listed-requires
-    minutes-in-requires
-    is-marked-requires
-    place-of-requires-2
-    first-of-open-requires
-    refuse-requires-2
-    returns-2
-    opened-requires
-    returns-3)
+    (λ c κs. search needs) returns (λ c κs. search needs) (λ c κs. search needs) (λ c κs. search needs) (λ c κs. search needs)
+    (λ c κs. search needs) (λ c κs. search needs) (λ c κs. search needs) (λ c κs. search needs) returns-2 (λ c κs. search needs) returns-3)

@@ -9,8 +9,9 @@ use Rattle.annex.specs.declared.Step.{Step}
 use Rattle.limits.specs.Limits.{exceeding, aboveLevel, lateStep}
 use Rattle.slot.specs.Slot.{steppedBy}
 use Rattle.slot.proofs.SoundLaws.{sound-room, sound-steps}
-use Rattle.plan.specs.Rules.{lookBy, stepIn}
-use Rattle.plan.specs.Plan.{refusedPlan, answerAt}
+use Rattle.plan.specs.Inside.{lookBy, answerAt}
+use Rattle.plan.specs.Rules.{stepIn}
+use Rattle.plan.specs.Plan.{refusedPlan}
 use Rattle.plan.proofs.PlanLaws.{refused-by, at-refused, at-accepted, step-answer, step-timely}
 use borrow.Author.Needs.{needs}
 use Rattle.plan.proofs.plan_step.Statement.{statement}
@@ -31,57 +32,12 @@ answer-is c =
     (λ i. cond (not (a .ledger .sheet .there)) 5 (cond (eqb (c .before .before .before .before .before .before .before .before .before .before .before .before .before .before .before .u16-at .ensures i) 0) 7 (cond (leb 32 (c .before .before .before .before .before .before .before .before .named .ensures i)) 8 (cond (not (eqb (ordinal i) (a .slot .steps + 1)) || ltb 64 (ordinal i)) 9 (rest i))))) ∙
     sym (step-answer (lookBy (a .slots) (a .roll) (a .slot) s) (a .ledger) (a .map .now) s (ap not (eq-eqb _ _ (c .before .before .before .before .before .before .before .before .before .before .before .before .before .before .before .before .if1 .left))))
 
-refuse-requires : tie.Need-refuse-requires
-refuse-requires c κs = search needs
-
 returns : tie.Need-returns
 returns c =
     let a = c .before .before .before .before .args in
     let s = a .bytes .now in
     c .refuse .ensures ∙
     sym (refused-by 17 (lookBy (a .slots) (a .roll) (a .slot) s) (a .slots) (a .ledger) (a .map .now) s 4 (refl, ap not (ne-eqb _ _ (c .before .if1 .taken))) (eqb-false 4 0 refl))
-
-u16-at-requires : tie.Need-u16-at-requires
-u16-at-requires c κs = search needs
-
-byte-at-requires : tie.Need-byte-at-requires
-byte-at-requires c κs = search needs
-
-step-at-requires : tie.Need-step-at-requires
-step-at-requires c κs = search needs
-
-named-requires : tie.Need-named-requires
-named-requires c κs = search needs
-
-is-late-requires : tie.Need-is-late-requires
-is-late-requires c κs = search needs
-
-exceeds-requires : tie.Need-exceeds-requires
-exceeds-requires c κs = search needs
-
-level-of-requires : tie.Need-level-of-requires
-level-of-requires c κs = search needs
-
-is-above-requires : tie.Need-is-above-requires
-is-above-requires c κs = search needs
-
-first-of-step-requires : tie.Need-first-of-step-requires
-first-of-step-requires c κs = search needs
-
-cast-first-of-named : tie.Need-cast-first-of-named
-cast-first-of-named c = search needs
-
-cast-first-of-named-2 : tie.Need-cast-first-of-named-2
-cast-first-of-named-2 c = search needs
-
-add-first-of-named : tie.Need-add-first-of-named
-add-first-of-named c = search needs
-
-first-of-named-requires : tie.Need-first-of-named-requires
-first-of-named-requires c κs = search needs
-
-refuse-requires-2 : tie.Need-refuse-requires-2
-refuse-requires-2 c κs = search needs
 
 returns-2 : tie.Need-returns-2
 returns-2 c =
@@ -99,36 +55,21 @@ stepped-requires c κs =
     let z = sym (answer-is (c .before)) ∙ c .if2 .left in
     let timely = step-timely (lookBy (a .slots) (a .roll) (a .slot) s) (a .ledger) (a .map .now) s z in
     let now = subst⁻¹ (λ (t : Step). (a .slot .last ≤ t .time) × (t .time ≤ 600000)) (c .before .before .before .before .before .before .before .before .before .before .before .before .before .before .step-at .ensures) timely in
-    (sound-room (a .slot) (c .before .before .before .before .before .before .before .before .before .before .before .before .before .before .before .before .before .before .before .before .pre), sound-steps (a .slot) (c .before .before .before .before .before .before .before .before .before .before .before .before .before .before .before .before .before .before .before .before .pre), now .0, now .1)
+    let sound = c .before .before .before .before .before .before .before .before .before .before .before .before .before .before .before .before .before .before .before .before .pre in
+    (record { room = sound-room (a .slot) sound; order = now .0; ends = now .1 }, sound-steps (a .slot) sound)
 
 returns-3 : tie.Need-returns-3
 returns-3 c =
     let a = c .before .before .before .before .before .before .before .before .before .before .before .before .before .before .before .before .before .before .before .before .before .args in
     let s = a .bytes .now in
     let slot = c .stepped .ensures ∙ ap (steppedBy (a .slot)) (c .before .before .before .before .before .before .before .before .before .before .before .before .before .before .before .step-at .ensures) in
-    (λ i. record { taken = record { answer = 0; ledger = a .ledger }; at = c .before .before .before .before .before .before .before .before .before .before .named .ensures i; slot = slot i; number = 0 }) ∙
+    (λ i. record { served = record { answer = 0; ledger = a .ledger }; at = c .before .before .before .before .before .before .before .before .before .before .named .ensures i; slot = slot i; number = 0 }) ∙
     sym (at-accepted 17 (lookBy (a .slots) (a .roll) (a .slot) s) (a .slots) (a .ledger) (a .map .now) s (sym (answer-is (c .before .before)) ∙ c .before .if2 .left))
 
 pub plan-step-spec : {M : Type 1} → statement M
 plan-step-spec =
     tie.close
     (tie.spec
-    refuse-requires
-    returns
-    u16-at-requires
-    byte-at-requires
-    step-at-requires
-    named-requires
-    is-late-requires
-    exceeds-requires
-    level-of-requires
-    is-above-requires
-    first-of-step-requires
-    cast-first-of-named
-    cast-first-of-named-2
-    add-first-of-named
-    first-of-named-requires
-    refuse-requires-2
-    returns-2
-    stepped-requires
-    returns-3)
+    (λ c κs. search needs) returns (λ c κs. search needs) (λ c κs. search needs) (λ c κs. search needs) (λ c κs. search needs)
+    (λ c κs. search needs) (λ c κs. search needs) (λ c κs. search needs) (λ c κs. search needs) (λ c κs. search needs) (λ c. search needs)
+    (λ c. search needs) (λ c. search needs) (λ c κs. search needs) (λ c κs. search needs) returns-2 stepped-requires returns-3)

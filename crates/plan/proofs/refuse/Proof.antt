@@ -3,13 +3,12 @@ use borrow.Author.Needs.{needs}
 use Rattle.plan.proofs.refuse.Statement.{statement}
 use Rattle.plan.proofs.refuse.Tie as tie
 
-free-requires : tie.Need-free-requires
-free-requires c κs = search needs
-
 returns : tie.Need-returns
 returns c =
     let a = c .before .args in
-    λ i. record { taken = record { answer = a .answer; ledger = a .ledger }; at = a .slots; slot = c .free .ensures i; number = 0 }
+    λ i. record { served = record { answer = a .answer; ledger = a .ledger }; at = a .slots; slot = c .free .ensures i; number = 0 }
 
 pub refuse-spec : {M : Type 1} → statement M
-refuse-spec = tie.close (tie.spec free-requires returns)
+refuse-spec = tie.close
+    (tie.spec
+    (λ c κs. search needs) returns)

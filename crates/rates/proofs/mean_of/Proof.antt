@@ -23,24 +23,15 @@ sound c = sym (c .before .sound .ensures) ∙ not-false _ (c .if1 .left)
 known : (c : tie.Else2) → elementListed (c .before .before .before .before .args .code) ≡ true
 known c = sym (c .before .is-element .ensures) ∙ not-false _ (c .if2 .left)
 
-sound-requires : tie.Need-sound-requires
-sound-requires c κs = search needs
-
 returns : tie.Need-returns
 returns c =
     let a = c .before .before .args in
     sym (unsound-refused (a .table) (a .code) (sym (c .before .sound .ensures) ∙ not-true _ (c .if1 .taken)) .1)
 
-is-element-requires : tie.Need-is-element-requires
-is-element-requires c κs = search needs
-
 returns-2 : tie.Need-returns-2
 returns-2 c =
     let a = c .before .before .before .before .args in
     sym (unknown-refused (a .table) (a .code) (sound (c .before .before)) (sym (c .before .is-element .ensures) ∙ not-true _ (c .if2 .taken)) .1)
-
-row-of-requires : tie.Need-row-of-requires
-row-of-requires c κs = search needs
 
 has-row : (c : tie.After-row-of) → c .row-of .result < 62
 has-row c = rw (c .row-of .ensures) (listed-row (c .before .before .before .before .before .before .args .code) (known (c .before .before)))
@@ -63,15 +54,6 @@ returns-3 c =
     (mean-refused (a .table) (a .code) (sound (r .before .before .before .before)) (known (r .before .before))
     (eq-eqb (rowAt (a .table) (a .code) .outages) 0 (sym (ap (λ (x : Row). x .outages) (read r)) ∙ c .if3 .taken)))
 
-cast-lowest : tie.Need-cast-lowest
-cast-lowest c = search needs
-
-mul-lowest : tie.Need-mul-lowest
-mul-lowest c = search needs
-
-lowest-requires : tie.Need-lowest-requires
-lowest-requires c κs = search needs
-
 returns-4 : tie.Need-returns-4
 returns-4 c =
     let a = c .before .before .before .before .before .before .before .before .before .before .before .args in
@@ -86,15 +68,5 @@ pub mean-of-spec : {M : Type 1} → statement M
 mean-of-spec =
     tie.close
     (tie.spec
-    sound-requires
-    returns
-    is-element-requires
-    returns-2
-    row-of-requires
-    mul-row
-    array-copy-out-row
-    returns-3
-    cast-lowest
-    mul-lowest
-    lowest-requires
-    returns-4)
+    (λ c κs. search needs) returns (λ c κs. search needs) returns-2 (λ c κs. search needs) mul-row array-copy-out-row returns-3
+    (λ c. search needs) (λ c. search needs) (λ c κs. search needs) returns-4)

@@ -25,24 +25,15 @@ sound c = sym (c .before .sound .ensures) ∙ not-false _ (c .if1 .left)
 known : (c : tie.Else2) → elementListed (c .before .before .before .before .args .code) ≡ true
 known c = sym (c .before .is-element .ensures) ∙ not-false _ (c .if2 .left)
 
-sound-requires : tie.Need-sound-requires
-sound-requires c κs = search needs
-
 returns : tie.Need-returns
 returns c =
     let a = c .before .before .args in
     sym (unsound-refused (a .table) (a .code) (sym (c .before .sound .ensures) ∙ not-true _ (c .if1 .taken)) .0)
 
-is-element-requires : tie.Need-is-element-requires
-is-element-requires c κs = search needs
-
 returns-2 : tie.Need-returns-2
 returns-2 c =
     let a = c .before .before .before .before .args in
     sym (unknown-refused (a .table) (a .code) (sound (c .before .before)) (sym (c .before .is-element .ensures) ∙ not-true _ (c .if2 .taken)) .0)
-
-row-of-requires : tie.Need-row-of-requires
-row-of-requires c κs = search needs
 
 has-row : (c : tie.After-row-of) → c .row-of .result < 62
 has-row c = rw (c .row-of .ensures) (listed-row (c .before .before .before .before .before .before .args .code) (known (c .before .before)))
@@ -70,12 +61,6 @@ returns-3 c =
     (rate-refused (a .table) (a .code) (sound (r .before .before .before .before)) (known (r .before .before))
     (sym (tested r) ∙ c .if3 .taken))
 
-weight-requires : tie.Need-weight-requires
-weight-requires c κs = search needs
-
-cast-lowest : tie.Need-cast-lowest
-cast-lowest c = search needs
-
 mul-lowest : tie.Need-mul-lowest
 mul-lowest c =
     let r = c .before .before .before .before .before .before in
@@ -83,12 +68,6 @@ mul-lowest c =
     let few = sound-row t (sound (r .before .before .before .before)) (r .row-of .result) .outages in
     let most : c .before .weight .result * rowOr (t .rows) (r .row-of .result) .outages ≤ 1000 * 65535 = mul-le-mul (c .before .weight .ensures .1) few in
     omega arith
-
-cast-lowest-2 : tie.Need-cast-lowest-2
-cast-lowest-2 c = search needs
-
-cast-lowest-3 : tie.Need-cast-lowest-3
-cast-lowest-3 c = search needs
 
 mul-lowest-2 : tie.Need-mul-lowest-2
 mul-lowest-2 c =
@@ -98,9 +77,6 @@ mul-lowest-2 c =
     let years = sound-period t (sound (r .before .before .before .before)) .1 in
     let most : rowOr (t .rows) (r .row-of .result) .amount * t .period ≤ 4294967295 * 50 = mul-le-mul some years in
     omega arith
-
-lowest-requires : tie.Need-lowest-requires
-lowest-requires c κs = search needs
 
 returns-4 : tie.Need-returns-4
 returns-4 c =
@@ -117,19 +93,6 @@ pub rate-of-spec : {M : Type 1} → statement M
 rate-of-spec =
     tie.close
     (tie.spec
-    sound-requires
-    returns
-    is-element-requires
-    returns-2
-    row-of-requires
-    mul-row
-    array-copy-out-row
-    returns-3
-    weight-requires
-    cast-lowest
-    mul-lowest
-    cast-lowest-2
-    cast-lowest-3
-    mul-lowest-2
-    lowest-requires
+    (λ c κs. search needs) returns (λ c κs. search needs) returns-2 (λ c κs. search needs) mul-row array-copy-out-row returns-3
+    (λ c κs. search needs) (λ c. search needs) mul-lowest (λ c. search needs) (λ c. search needs) mul-lowest-2 (λ c κs. search needs)
     returns-4)

@@ -5,15 +5,6 @@ use borrow.Author.Needs.{needs}
 use Rattle.rates.proofs.shown.Statement.{statement}
 use Rattle.rates.proofs.shown.Tie as tie
 
-enum-known-figure : tie.Need-enum-known-figure
-enum-known-figure c = search needs
-
-decimal-of-requires : tie.Need-decimal-of-requires
-decimal-of-requires c κs = search needs
-
-enum-known-figure-2 : tie.Need-enum-known-figure-2
-enum-known-figure-2 c = search needs
-
 returns : tie.Need-returns
 returns c =
     c .decimal-of .ensures ∙ ap (λ a. shownFigure a (c .before .before .before .before .args .digits)) (sym (c .before .before .figure .given .1))
@@ -25,4 +16,5 @@ returns-2 c =
 pub shown-spec : {M : Type 1} → statement M
 shown-spec =
     tie.close
-    (tie.spec enum-known-figure decimal-of-requires enum-known-figure-2 returns returns-2)
+    (tie.spec
+    (λ c. search needs) (λ c κs. search needs) (λ c. search needs) returns returns-2)

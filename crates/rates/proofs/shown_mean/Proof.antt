@@ -5,15 +5,11 @@ use borrow.Author.Needs.{needs}
 use Rattle.rates.proofs.shown_mean.Statement.{statement}
 use Rattle.rates.proofs.shown_mean.Tie as tie
 
-mean-of-requires : tie.Need-mean-of-requires
-mean-of-requires c κs = search needs
-
-shown-requires : tie.Need-shown-requires
-shown-requires c κs = search needs
-
 returns : tie.Need-returns
 unfolding shownMean
 returns c = c .shown .ensures ∙ ap (λ a. shownFigure a (c .before .before .args .digits)) (c .before .mean-of .ensures)
 
 pub shown-mean-spec : {M : Type 1} → statement M
-shown-mean-spec = tie.close (tie.spec mean-of-requires shown-requires returns)
+shown-mean-spec = tie.close
+    (tie.spec
+    (λ c κs. search needs) (λ c κs. search needs) returns)

@@ -5,15 +5,11 @@ use borrow.Author.Needs.{needs}
 use Rattle.rates.proofs.shown_rate.Statement.{statement}
 use Rattle.rates.proofs.shown_rate.Tie as tie
 
-rate-of-requires : tie.Need-rate-of-requires
-rate-of-requires c κs = search needs
-
-shown-requires : tie.Need-shown-requires
-shown-requires c κs = search needs
-
 returns : tie.Need-returns
 unfolding shownRate
 returns c = c .shown .ensures ∙ ap (λ a. shownFigure a (c .before .before .args .digits)) (c .before .rate-of .ensures)
 
 pub shown-rate-spec : {M : Type 1} → statement M
-shown-rate-spec = tie.close (tie.spec rate-of-requires shown-requires returns)
+shown-rate-spec = tie.close
+    (tie.spec
+    (λ c κs. search needs) (λ c κs. search needs) returns)

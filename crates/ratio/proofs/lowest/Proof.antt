@@ -7,21 +7,12 @@ use Rattle.ratio.specs.Lowest.{gcdOf, lowestOf}
 use Rattle.ratio.proofs.lowest.Statement.{statement}
 use Rattle.ratio.proofs.lowest.Tie as tie
 
-gcd-requires : tie.Need-gcd-requires
-gcd-requires c κs = search needs
-
 returns : tie.Need-returns
 unfolding lowestOf
 returns c =
     let a = c .before .before .args in
     let e : gcdOf (a .n) (a .d) ≡ 0 = sym (c .before .gcd .ensures) ∙ c .if1 .taken in
     sym ((λ i. record { top = a .n / e i; bottom = a .d / e i }) ∙ (λ i. record { top = div-zero (a .n) i; bottom = div-zero (a .d) i }))
-
-div-t5 : tie.Need-div-t5
-div-t5 c = search needs
-
-div-t6 : tie.Need-div-t6
-div-t6 c = search needs
 
 returns-2 : tie.Need-returns-2
 unfolding lowestOf
@@ -30,4 +21,6 @@ returns-2 c =
     λ i. record { top = a .n / c .before .gcd .ensures i; bottom = a .d / c .before .gcd .ensures i }
 
 pub lowest-spec : {M : Type 1} → statement M
-lowest-spec = tie.close (tie.spec gcd-requires returns div-t5 div-t6 returns-2)
+lowest-spec = tie.close
+    (tie.spec
+    (λ c κs. search needs) returns (λ c. search needs) (λ c. search needs) returns-2)

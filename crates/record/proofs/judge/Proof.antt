@@ -5,17 +5,12 @@ use borrow.Author.Tests.{eqb-false, not-true, not-false}
 use Rattle.wire.specs.Frame.{framed, kindOf}
 use Rattle.verdict.specs.Verdict.{refusedWith}
 use Rattle.record.specs.Rules.{byKind}
-use Rattle.record.specs.Verdict.{recordAnswer, verdictAt}
+use Rattle.record.specs.Inside.{verdictAt}
+use Rattle.record.specs.Verdict.{recordAnswer}
 use Rattle.record.proofs.JudgeLaws.{unframed-is-2, verdict-refused, verdict-by-kind, refused-by, no-kind, sheet-alone}
 use borrow.Author.Needs.{needs}
 use Rattle.record.proofs.judge.Statement.{statement}
 use Rattle.record.proofs.judge.Tie as tie
-
-is-framed-requires : tie.Need-is-framed-requires
-is-framed-requires c κs = search needs
-
-refuse-requires : tie.Need-refuse-requires
-refuse-requires c κs = search needs
 
 returns : tie.Need-returns
 returns c =
@@ -26,12 +21,6 @@ returns c =
     c .refuse .ensures ∙
     ap (refusedWith (a .sheet)) (sym e) ∙
     sym (verdict-refused s (a .sheet) (a .map .now) (a .events) (λ z. eqb-false 2 0 refl (sym e ∙ z)))
-
-kind-of-requires : tie.Need-kind-of-requires
-kind-of-requires c κs = search needs
-
-judge-sheet-requires : tie.Need-judge-sheet-requires
-judge-sheet-requires c κs = search needs
 
 returns-2 : tie.Need-returns-2
 returns-2 c =
@@ -44,9 +33,6 @@ returns-2 c =
     ap (λ n. verdictAt n s (a .sheet) (a .map .now) (a .events)) (sym k) ∙
     sym (verdict-by-kind s (a .sheet) (a .map .now) (a .events) f)
 
-judge-simple-requires : tie.Need-judge-simple-requires
-judge-simple-requires c κs = search needs
-
 returns-3 : tie.Need-returns-3
 returns-3 c =
     let a = c .before .before .before .before .before .before .before .before .args in
@@ -57,9 +43,6 @@ returns-3 c =
     ap (λ n. verdictAt n s (a .sheet) (a .map .now) (a .events)) (sym k) ∙
     sym (verdict-by-kind s (a .sheet) (a .map .now) (a .events) f)
 
-judge-stepped-requires : tie.Need-judge-stepped-requires
-judge-stepped-requires c κs = search needs
-
 returns-4 : tie.Need-returns-4
 returns-4 c =
     let a = c .before .before .before .before .before .before .before .before .before .args in
@@ -69,9 +52,6 @@ returns-4 c =
     c .judge-stepped .ensures ∙
     ap (λ n. verdictAt n s (a .sheet) (a .map .now) (a .events)) (sym k) ∙
     sym (verdict-by-kind s (a .sheet) (a .map .now) (a .events) f)
-
-refuse-requires-2 : tie.Need-refuse-requires-2
-refuse-requires-2 c κs = search needs
 
 returns-5 : tie.Need-returns-5
 returns-5 c =
@@ -89,15 +69,5 @@ pub judge-spec : {M : Type 1} → statement M
 judge-spec =
     tie.close
     (tie.spec
-    is-framed-requires
-    refuse-requires
-    returns
-    kind-of-requires
-    judge-sheet-requires
-    returns-2
-    judge-simple-requires
-    returns-3
-    judge-stepped-requires
-    returns-4
-    refuse-requires-2
-    returns-5)
+    (λ c κs. search needs) (λ c κs. search needs) returns (λ c κs. search needs) (λ c κs. search needs) returns-2 (λ c κs. search needs)
+    returns-3 (λ c κs. search needs) returns-4 (λ c κs. search needs) returns-5)

@@ -10,30 +10,15 @@ use borrow.Author.Needs.{needs}
 use Rattle.record.proofs.judge_sheet.Statement.{statement}
 use Rattle.record.proofs.judge_sheet.Tie as tie
 
-refuse-requires : tie.Need-refuse-requires
-refuse-requires c κs = search needs
-
 returns : tie.Need-returns
 returns c =
     let a = c .before .before .before .args in
     c .refuse .ensures ∙ sym (refused-by 1 (a .bytes .now) (a .sheet) [] 0 4 (refl, ap not (ne-eqb _ _ (c .before .if1 .taken))) (eqb-false 4 0 refl))
 
-refuse-requires-2 : tie.Need-refuse-requires-2
-refuse-requires-2 c κs = search needs
-
 returns-2 : tie.Need-returns-2
 returns-2 c =
     let a = c .before .before .before .before .args in
     c .refuse2 .ensures ∙ sym (refused-by 1 (a .bytes .now) (a .sheet) [] 0 5 (refl, (ap not (eq-eqb _ _ (c .before .before .if1 .left)), c .before .if2 .taken)) (eqb-false 5 0 refl))
-
-sheet-of-requires : tie.Need-sheet-of-requires
-sheet-of-requires c κs = search needs
-
-in-range-requires : tie.Need-in-range-requires
-in-range-requires c κs = search needs
-
-refuse-requires-3 : tie.Need-refuse-requires-3
-refuse-requires-3 c κs = search needs
 
 returns-3 : tie.Need-returns-3
 returns-3 c =
@@ -41,9 +26,6 @@ returns-3 c =
     let out : not (inRange (sheetIn (a .bytes .now))) ≡ true =
     ap (λ x. not (inRange x)) (sym (c .before .before .before .sheet-of .ensures)) ∙ ap not (sym (c .before .before .in-range .ensures)) ∙ c .before .if3 .taken in
     c .refuse3 .ensures ∙ sym (refused-by 1 (a .bytes .now) (a .sheet) [] 0 6 (refl, (ap not (eq-eqb _ _ (c .before .before .before .before .before .if1 .left)), (c .before .before .before .before .if2 .left, out))) (eqb-false 6 0 refl))
-
-none-requires : tie.Need-none-requires
-none-requires c κs = search needs
 
 returns-4 : tie.Need-returns-4
 returns-4 c =
@@ -59,13 +41,5 @@ pub judge-sheet-spec : {M : Type 1} → statement M
 judge-sheet-spec =
     tie.close
     (tie.spec
-    refuse-requires
-    returns
-    refuse-requires-2
-    returns-2
-    sheet-of-requires
-    in-range-requires
-    refuse-requires-3
-    returns-3
-    none-requires
-    returns-4)
+    (λ c κs. search needs) returns (λ c κs. search needs) returns-2 (λ c κs. search needs) (λ c κs. search needs) (λ c κs. search needs)
+    returns-3 (λ c κs. search needs) returns-4)

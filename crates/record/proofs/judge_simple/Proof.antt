@@ -7,8 +7,8 @@ use Rattle.annex.specs.Simple.{simpleFigures, InOrder}
 use Rattle.fields.specs.Fields.{headIn, simpleIn}
 use Rattle.limits.proofs.LimitLaws.{simple-ordered}
 use Rattle.verdict.specs.Verdict.{refusedWith, eventVerdict}
-use Rattle.record.specs.Rules.{simpleAnswer}
-use Rattle.record.specs.Verdict.{answerAt}
+use Rattle.base.specs.First.{first}
+use Rattle.record.specs.Inside.{simpleTests, answerAt}
 use Rattle.record.proofs.JudgeLaws.{refused-by, at-refused, at-accepted, simple-answer, simple-timely}
 use borrow.Author.Needs.{needs}
 use Rattle.record.proofs.judge_simple.Statement.{statement}
@@ -19,11 +19,8 @@ answer-is : (c : tie.After-simple-answer) → let a = c .before .before .before 
 answer-is c =
     let a = c .before .before .before .before .before .before .args in
     c .simple-answer .ensures ∙
-    (λ i. simpleAnswer (c .before .before .head-of .ensures i) (c .before .simple-of .ensures i) (a .sheet) (a .map .now) (a .events)) ∙
+    (λ i. first (simpleTests (c .before .before .head-of .ensures i) (c .before .simple-of .ensures i) (a .sheet) (a .map .now) (a .events))) ∙
     sym (simple-answer (a .bytes .now) (a .sheet) (a .map .now) (a .events) (ap not (eq-eqb _ _ (c .before .before .before .if1 .left))))
-
-refuse-requires : tie.Need-refuse-requires
-refuse-requires c κs = search needs
 
 returns : tie.Need-returns
 returns c =
@@ -31,18 +28,6 @@ returns c =
     c .refuse .ensures ∙
     sym
     (refused-by 2 (a .bytes .now) (a .sheet) (a .map .now) (a .events) 4 (refl, ap not (ne-eqb _ _ (c .before .if1 .taken))) (eqb-false 4 0 refl))
-
-head-of-requires : tie.Need-head-of-requires
-head-of-requires c κs = search needs
-
-simple-of-requires : tie.Need-simple-of-requires
-simple-of-requires c κs = search needs
-
-simple-answer-requires : tie.Need-simple-answer-requires
-simple-answer-requires c κs = search needs
-
-refuse-requires-2 : tie.Need-refuse-requires-2
-refuse-requires-2 c κs = search needs
 
 returns-2 : tie.Need-returns-2
 returns-2 c =
@@ -59,9 +44,6 @@ figures-requires c κs =
     subst⁻¹ InOrder (c .before .before .simple-of .ensures)
     (simple-ordered (headIn (a .bytes .now) .typ) (simpleIn (a .bytes .now)) (simple-timely (a .bytes .now) (a .sheet) (a .map .now) (a .events) z))
 
-accept-requires : tie.Need-accept-requires
-accept-requires c κs = search needs
-
 returns-3 : tie.Need-returns-3
 returns-3 c =
     let a = c .before .before .before .before .before .before .before .before .before .args in
@@ -75,13 +57,5 @@ pub judge-simple-spec : {M : Type 1} → statement M
 judge-simple-spec =
     tie.close
     (tie.spec
-    refuse-requires
-    returns
-    head-of-requires
-    simple-of-requires
-    simple-answer-requires
-    refuse-requires-2
-    returns-2
-    figures-requires
-    accept-requires
-    returns-3)
+    (λ c κs. search needs) returns (λ c κs. search needs) (λ c κs. search needs) (λ c κs. search needs) (λ c κs. search needs) returns-2
+    figures-requires (λ c κs. search needs) returns-3)

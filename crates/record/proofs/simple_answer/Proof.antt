@@ -8,7 +8,8 @@ use lib.ListN.{drop}
 use borrow.Author.Tests.{le-leb, lt-leb}
 use Rattle.base.specs.First.{first}
 use Rattle.limits.specs.Limits.{aboveLevel}
-use Rattle.record.proofs.JudgeLaws.{simpleTests, met, passed}
+use Rattle.record.specs.Inside.{simpleTests}
+use Rattle.record.proofs.JudgeLaws.{met, passed}
 use borrow.Author.Needs.{needs}
 use Rattle.record.proofs.simple_answer.Statement.{statement}
 use Rattle.record.proofs.simple_answer.Tie as tie
@@ -71,53 +72,23 @@ at-14 c = (λ i. cond (c .is-marked .ensures i) 14 (rest-14 c 7)) ∙ passed 13 
 at-15 : (c : tie.Else7) → cond (leb 65535 (c .before .before .before .before .before .before .before .before .before .before .before .before .before .before .before .before .before .before .before .before .before .before .before .args .events)) 15 0 ≡ rest-14 (c .before) 0
 at-15 c = passed 14 _ (at-14 (c .before)) (c .if7 .left)
 
-level-of-requires : tie.Need-level-of-requires
-level-of-requires c κs = search needs
-
 returns : tie.Need-returns
 returns c = met 5 _ refl (c .if1 .taken)
-
-listed-requires : tie.Need-listed-requires
-listed-requires c κs = search needs
 
 returns-2 : tie.Need-returns-2
 returns-2 c = met 7 _ (at-7 (c .before)) (c .if2 .taken)
 
-minutes-in-requires : tie.Need-minutes-in-requires
-minutes-in-requires c κs = search needs
-
-is-simple-late-requires : tie.Need-is-simple-late-requires
-is-simple-late-requires c κs = search needs
-
 returns-3 : tie.Need-returns-3
 returns-3 c = met 10 _ (at-10 (c .before)) (c .if3 .taken)
-
-exceeds-requires : tie.Need-exceeds-requires
-exceeds-requires c κs = search needs
-
-exceeds-requires-2 : tie.Need-exceeds-requires-2
-exceeds-requires-2 c κs = search needs
 
 returns-4 : tie.Need-returns-4
 returns-4 c = met 11 _ (at-11 (c .before)) (c .if4 .taken)
 
-is-above-requires : tie.Need-is-above-requires
-is-above-requires c κs = search needs
-
-is-above-requires-2 : tie.Need-is-above-requires-2
-is-above-requires-2 c κs = search needs
-
 returns-5 : tie.Need-returns-5
 returns-5 c = met 12 _ (at-12 (c .before)) (c .if5 .taken)
 
-is-none-then-some-requires : tie.Need-is-none-then-some-requires
-is-none-then-some-requires c κs = search needs
-
 returns-6 : tie.Need-returns-6
 returns-6 c = met 13 _ (at-13 (c .before)) (c .if6 .taken)
-
-is-marked-requires : tie.Need-is-marked-requires
-is-marked-requires c κs = search needs
 
 returns-7 : tie.Need-returns-7
 returns-7 c = met 14 _ (at-14 (c .before)) (c .if7 .taken)
@@ -132,22 +103,6 @@ pub simple-answer-spec : {M : Type 1} → statement M
 simple-answer-spec =
     tie.close
     (tie.spec
-    level-of-requires
-    returns
-    listed-requires
-    returns-2
-    minutes-in-requires
-    is-simple-late-requires
-    returns-3
-    exceeds-requires
-    exceeds-requires-2
-    returns-4
-    is-above-requires
-    is-above-requires-2
-    returns-5
-    is-none-then-some-requires
-    returns-6
-    is-marked-requires
-    returns-7
-    returns-8
-    returns-9)
+    (λ c κs. search needs) returns (λ c κs. search needs) returns-2 (λ c κs. search needs) (λ c κs. search needs) returns-3
+    (λ c κs. search needs) (λ c κs. search needs) returns-4 (λ c κs. search needs) (λ c κs. search needs) returns-5 (λ c κs. search needs)
+    returns-6 (λ c κs. search needs) returns-7 returns-8 returns-9)

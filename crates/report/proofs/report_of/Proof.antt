@@ -14,27 +14,12 @@ use borrow.Author.Needs.{needs}
 use Rattle.report.proofs.report_of.Statement.{statement}
 use Rattle.report.proofs.report_of.Tie as tie
 
-sound-requires : tie.Need-sound-requires
-sound-requires c κs = search needs
-
-empty-requires : tie.Need-empty-requires
-empty-requires c κs = search needs
-
 returns : tie.Need-returns
 returns c =
     let a = c .before .before .before .args in
     let sound = c .before .before .sound in
     let e : soundLedger (a .ledger) ≡ false = sym (sound .ensures) ∙ not-true (sound .result) (c .before .if1 .taken) in
     ap (λ (t : Text). record { answer = 1; text = t }) (c .empty .ensures) ∙ sym (unsound-no-text (a .ledger) (a .refused) e)
-
-empty-requires-2 : tie.Need-empty-requires-2
-empty-requires-2 c κs = search needs
-
-with-head-requires : tie.Need-with-head-requires
-with-head-requires c κs = search needs
-
-with-lines-requires : tie.Need-with-lines-requires
-with-lines-requires c κs = search needs
 
 -- what is known once the head is there
 is-sound : (c : tie.After-with-head) → soundLedger (c .before .before .before .before .before .args .ledger) ≡ true
@@ -68,11 +53,5 @@ pub report-of-spec : {M : Type 1} → statement M
 report-of-spec =
     tie.close
     (tie.spec
-    sound-requires
-    empty-requires
-    returns
-    empty-requires-2
-    with-head-requires
-    with-lines-requires
-    returns-2
+    (λ c κs. search needs) (λ c κs. search needs) returns (λ c κs. search needs) (λ c κs. search needs) (λ c κs. search needs) returns-2
     returns-3)

@@ -4,18 +4,11 @@ use borrow.Author.Needs.{needs}
 use Rattle.report.proofs.with_index.Statement.{statement}
 use Rattle.report.proofs.with_index.Tie as tie
 
-with-byte-requires : tie.Need-with-byte-requires
-with-byte-requires c κs = search needs
-
-decimal-of-requires : tie.Need-decimal-of-requires
-decimal-of-requires c κs = search needs
-
-with-figure-requires : tie.Need-with-figure-requires
-with-figure-requires c κs = search needs
-
 returns : tie.Need-returns
 returns c = rw (c .with-figure .ensures, c .before .decimal-of .ensures, c .before .before .with-byte .ensures) refl
 
 pub with-index-spec : {M : Type 1} → statement M
 with-index-spec =
-    tie.close (tie.spec with-byte-requires decimal-of-requires with-figure-requires returns)
+    tie.close
+    (tie.spec
+    (λ c κs. search needs) (λ c κs. search needs) (λ c κs. search needs) returns)

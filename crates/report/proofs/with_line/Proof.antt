@@ -4,27 +4,6 @@ use borrow.Author.Needs.{needs}
 use Rattle.report.proofs.with_line.Statement.{statement}
 use Rattle.report.proofs.with_line.Tie as tie
 
-with-level-requires : tie.Need-with-level-requires
-with-level-requires c κs = search needs
-
-with-byte-requires : tie.Need-with-byte-requires
-with-byte-requires c κs = search needs
-
-with-set-requires : tie.Need-with-set-requires
-with-set-requires c κs = search needs
-
-with-index-requires : tie.Need-with-index-requires
-with-index-requires c κs = search needs
-
-with-index-requires-2 : tie.Need-with-index-requires-2
-with-index-requires-2 c κs = search needs
-
-with-index-requires-3 : tie.Need-with-index-requires-3
-with-index-requires-3 c κs = search needs
-
-with-byte-requires-2 : tie.Need-with-byte-requires-2
-with-byte-requires-2 c κs = search needs
-
 returns : tie.Need-returns
 returns c =
     simp (
@@ -42,11 +21,5 @@ pub with-line-spec : {M : Type 1} → statement M
 with-line-spec =
     tie.close
     (tie.spec
-    with-level-requires
-    with-byte-requires
-    with-set-requires
-    with-index-requires
-    with-index-requires-2
-    with-index-requires-3
-    with-byte-requires-2
-    returns)
+    (λ c κs. search needs) (λ c κs. search needs) (λ c κs. search needs) (λ c κs. search needs) (λ c κs. search needs)
+    (λ c κs. search needs) (λ c κs. search needs) returns)

@@ -11,30 +11,6 @@ use borrow.Author.Needs.{needs}
 use Rattle.report.proofs.with_lines.Statement.{statement}
 use Rattle.report.proofs.with_lines.Tie as tie
 
-with-line-requires : tie.Need-with-line-requires
-with-line-requires c κs = search needs
-
-with-line-requires-2 : tie.Need-with-line-requires-2
-with-line-requires-2 c κs = search needs
-
-with-line-requires-3 : tie.Need-with-line-requires-3
-with-line-requires-3 c κs = search needs
-
-with-line-requires-4 : tie.Need-with-line-requires-4
-with-line-requires-4 c κs = search needs
-
-with-line-requires-5 : tie.Need-with-line-requires-5
-with-line-requires-5 c κs = search needs
-
-with-line-requires-6 : tie.Need-with-line-requires-6
-with-line-requires-6 c κs = search needs
-
-with-line-requires-7 : tie.Need-with-line-requires-7
-with-line-requires-7 c κs = search needs
-
-with-line-requires-8 : tie.Need-with-line-requires-8
-with-line-requires-8 c κs = search needs
-
 returns : tie.Need-returns
 returns c =
     let line : Level → Set → List ℕ = lineText (c .before .before .before .before .before .before .before .before .args .ledger) in
@@ -54,12 +30,5 @@ pub with-lines-spec : {M : Type 1} → statement M
 with-lines-spec =
     tie.close
     (tie.spec
-    with-line-requires
-    with-line-requires-2
-    with-line-requires-3
-    with-line-requires-4
-    with-line-requires-5
-    with-line-requires-6
-    with-line-requires-7
-    with-line-requires-8
-    returns)
+    (λ c κs. search needs) (λ c κs. search needs) (λ c κs. search needs) (λ c κs. search needs) (λ c κs. search needs)
+    (λ c κs. search needs) (λ c κs. search needs) (λ c κs. search needs) returns)

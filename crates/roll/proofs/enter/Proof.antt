@@ -3,19 +3,10 @@ use mathlib.Core.Path.{_≡_, refl, sym, _∙_, ap}
 use mathlib.Core.Bool.{_&&_, and-true}
 use Rattle.slot.specs.Sound.{slotSound}
 use Rattle.slot.proofs.SoundLaws.{free-decides, open-decides}
-use Rattle.roll.specs.Roll.{rolledSlot}
+use Rattle.roll.specs.Inside.{rolledSlot}
 use borrow.Author.Needs.{needs}
 use Rattle.roll.proofs.enter.Statement.{statement}
 use Rattle.roll.proofs.enter.Tie as tie
-
-note-requires : tie.Need-note-requires
-note-requires c κs = search needs
-
-is-free-requires : tie.Need-is-free-requires
-is-free-requires c κs = search needs
-
-same-length : tie.Need-same-length
-same-length c = search needs
 
 returns : tie.Need-returns
 unfolding rolledSlot
@@ -23,12 +14,6 @@ returns c =
     let a = c .before .before .before .before .before .before .before .before .args in
     let free = sym (c .before .is-free .ensures) ∙ c .if1 .taken in
     (sym (ap (λ t. a .sound && t) (free-decides (a .slot) free) ∙ and-true (a .sound)), c .before .before .before .before .note .ensures)
-
-open-sound-requires : tie.Need-open-sound-requires
-open-sound-requires c κs = search needs
-
-same-length-2 : tie.Need-same-length-2
-same-length-2 c = search needs
 
 returns-2 : tie.Need-returns-2
 unfolding rolledSlot
@@ -40,4 +25,5 @@ returns-2 c =
 pub enter-spec : {M : Type 1} → statement M
 enter-spec =
     tie.close
-    (tie.spec note-requires is-free-requires same-length returns open-sound-requires same-length-2 returns-2)
+    (tie.spec
+    (λ c κs. search needs) (λ c κs. search needs) (λ c. search needs) returns (λ c κs. search needs) (λ c. search needs) returns-2)

@@ -19,21 +19,6 @@ abbrev μ-loop : tie.MeasureT-loop
 loop-holds : tie.Need-loop-holds Inv-loop μ-loop
 loop-holds c = (search needs, lookup-begins (c .args .number) (c .args .start) (c .args .t1), search needs)
 
-cast-hit : tie.Need-cast-hit Inv-loop μ-loop
-cast-hit c = search needs
-
-mul-hit : tie.Need-mul-hit Inv-loop μ-loop
-mul-hit c = search needs
-
-array-read-hit : tie.Need-array-read-hit Inv-loop μ-loop
-array-read-hit c = search needs
-
-add-i : tie.Need-add-i Inv-loop μ-loop
-add-i c = search needs
-
-loop-less : tie.Need-loop-less Inv-loop μ-loop
-loop-less c = search needs
-
 loop-again : tie.Need-loop-again Inv-loop μ-loop
 loop-again c =
     let a = c .before .before .args in
@@ -49,4 +34,6 @@ returns c =
 pub listed-from-spec : {M : Type 1} → statement M
 listed-from-spec =
     tie.close
-    (tie.spec Inv-loop μ-loop loop-holds cast-hit mul-hit array-read-hit add-i loop-less loop-again returns)
+    (tie.spec
+    Inv-loop μ-loop loop-holds (λ c. search needs) (λ c. search needs) (λ c. search needs) (λ c. search needs) (λ c. search needs)
+    loop-again returns)

@@ -10,17 +10,7 @@ returns c =
     let a = c .before .args in
     sym (set-out (a .numbers .now) (a .at) (a .number) (c .if1 .taken))
 
-mul-numbers : tie.Need-mul-numbers
-mul-numbers c = search needs
-
-slice-write-numbers : tie.Need-slice-write-numbers
-slice-write-numbers c = search needs
-
-same-length : tie.Need-same-length
-same-length c = search needs
-
-returns-2 : tie.Need-returns-2
-returns-2 c = search needs
-
 pub note-spec : {M : Type 1} → statement M
-note-spec = tie.close (tie.spec returns mul-numbers slice-write-numbers same-length returns-2)
+note-spec = tie.close
+    (tie.spec
+    returns (λ c. search needs) (λ c. search needs) (λ c. search needs) (λ c. search needs))

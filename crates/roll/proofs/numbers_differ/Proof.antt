@@ -16,30 +16,6 @@ Inv-loop table ok₀ i₀ ok i = (i ≤ 32) × (differ table ≡ (ok && differ (
 abbrev μ-loop : tie.MeasureT-loop
 μ-loop table ok₀ i₀ ok i = 32 - i
 
-loop-holds : tie.Need-loop-holds Inv-loop μ-loop
-loop-holds c = search needs
-
-cast-number : tie.Need-cast-number Inv-loop μ-loop
-cast-number c = search needs
-
-mul-number : tie.Need-mul-number Inv-loop μ-loop
-mul-number c = search needs
-
-array-read-number : tie.Need-array-read-number Inv-loop μ-loop
-array-read-number c = search needs
-
-add-listed-from : tie.Need-add-listed-from Inv-loop μ-loop
-add-listed-from c = search needs
-
-listed-from-requires : tie.Need-listed-from-requires Inv-loop μ-loop
-listed-from-requires c κs = search needs
-
-add-i : tie.Need-add-i Inv-loop μ-loop
-add-i c = search needs
-
-loop-less : tie.Need-loop-less Inv-loop μ-loop
-loop-less c = search needs
-
 loop-again : tie.Need-loop-again Inv-loop μ-loop
 loop-again c =
     let t = c .before .before .before .args .t1 in
@@ -59,4 +35,6 @@ returns c =
 pub numbers-differ-spec : {M : Type 1} → statement M
 numbers-differ-spec =
     tie.close
-    (tie.spec Inv-loop μ-loop loop-holds cast-number mul-number array-read-number add-listed-from listed-from-requires add-i loop-less loop-again returns)
+    (tie.spec
+    Inv-loop μ-loop (λ c. search needs) (λ c. search needs) (λ c. search needs) (λ c. search needs) (λ c. search needs)
+    (λ c κs. search needs) (λ c. search needs) (λ c. search needs) loop-again returns)

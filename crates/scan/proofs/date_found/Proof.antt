@@ -16,9 +16,6 @@ minute c =
     c .minute-of .ensures ∙
     (λ i. minuteOf (c .before .before .before .before .before .before .before .before .before .args .year) (record { month = c .before .before .before .before .two-at .ensures i; day = c .before .before .before .two-at2 .ensures i; hour = c .before .before .two-at3 .ensures i; minute = c .before .two-at4 .ensures i }))
 
-date-stands-requires : tie.Need-date-stands-requires
-date-stands-requires c κs = search needs
-
 returns : tie.Need-returns
 unfolding dateFound
 returns c = rw (dateFound, ← c .before .date-stands .ensures, not-true (c .before .date-stands .result) (c .if1 .taken))
@@ -26,21 +23,6 @@ returns c = rw (dateFound, ← c .before .date-stands .ensures, not-true (c .bef
 returns-2 : tie.Need-returns-2
 unfolding dateFound
 returns-2 c = rw (dateFound, stands (c .before), eq-eqb (c .before .before .before .before .args .year) 0 (c .if2 .taken))
-
-two-at-requires : tie.Need-two-at-requires
-two-at-requires c κs = search needs
-
-two-at-requires-2 : tie.Need-two-at-requires-2
-two-at-requires-2 c κs = search needs
-
-two-at-requires-3 : tie.Need-two-at-requires-3
-two-at-requires-3 c κs = search needs
-
-two-at-requires-4 : tie.Need-two-at-requires-4
-two-at-requires-4 c κs = search needs
-
-minute-of-requires : tie.Need-minute-of-requires
-minute-of-requires c κs = search needs
 
 returns-3 : tie.Need-returns-3
 unfolding dateFound
@@ -58,13 +40,5 @@ pub date-found-spec : {M : Type 1} → statement M
 date-found-spec =
     tie.close
     (tie.spec
-    date-stands-requires
-    returns
-    returns-2
-    two-at-requires
-    two-at-requires-2
-    two-at-requires-3
-    two-at-requires-4
-    minute-of-requires
-    returns-3
-    returns-4)
+    (λ c κs. search needs) returns returns-2 (λ c κs. search needs) (λ c κs. search needs) (λ c κs. search needs) (λ c κs. search needs)
+    (λ c κs. search needs) returns-3 returns-4)

@@ -27,50 +27,29 @@ hour c = sym (c .before .two-stand3 .ensures) ∙ not-false (c .before .two-stan
 colon : (c : tie.Else6) → eqb (byteAt (c .before .before .before .before .before .before .before .before .before .before .before .before .before .args .s .now) 8) 58 ≡ true
 colon c = eq-eqb (byteAt (c .before .before .before .before .before .before .before .before .before .before .before .before .before .args .s .now) 8) 58 (sym (c .before .byte-at3 .ensures) ∙ c .if6 .left)
 
-two-stand-requires : tie.Need-two-stand-requires
-two-stand-requires c κs = search needs
-
 returns : tie.Need-returns
 unfolding dateStands
 returns c = let none : twoStand (c .before .before .before .args .s .now) 0 ≡ false = sym (c .before .two-stand .ensures) ∙ not-true (c .before .two-stand .result) (c .if1 .taken) in rw (dateStands, none)
-
-byte-at-requires : tie.Need-byte-at-requires
-byte-at-requires c κs = search needs
 
 returns-2 : tie.Need-returns-2
 unfolding dateStands
 returns-2 c = let none : eqb (byteAt (c .before .before .before .before .before .args .s .now) 2) 45 ≡ false = ne-eqb (byteAt (c .before .before .before .before .before .args .s .now) 2) 45 (λ e. c .if2 .taken (c .before .byte-at .ensures ∙ e)) in rw (dateStands, month (c .before .before), none)
 
-two-stand-requires-2 : tie.Need-two-stand-requires-2
-two-stand-requires-2 c κs = search needs
-
 returns-3 : tie.Need-returns-3
 unfolding dateStands
 returns-3 c = let none : twoStand (c .before .before .before .before .before .before .before .args .s .now) 3 ≡ false = sym (c .before .two-stand2 .ensures) ∙ not-true (c .before .two-stand2 .result) (c .if3 .taken) in rw (dateStands, month (c .before .before .before .before), dash (c .before .before), none)
-
-byte-at-requires-2 : tie.Need-byte-at-requires-2
-byte-at-requires-2 c κs = search needs
 
 returns-4 : tie.Need-returns-4
 unfolding dateStands
 returns-4 c = let none : eqb (byteAt (c .before .before .before .before .before .before .before .before .before .args .s .now) 5) 32 ≡ false = ne-eqb (byteAt (c .before .before .before .before .before .before .before .before .before .args .s .now) 5) 32 (λ e. c .if4 .taken (c .before .byte-at2 .ensures ∙ e)) in rw (dateStands, month (c .before .before .before .before .before .before), dash (c .before .before .before .before), day (c .before .before), none)
 
-two-stand-requires-3 : tie.Need-two-stand-requires-3
-two-stand-requires-3 c κs = search needs
-
 returns-5 : tie.Need-returns-5
 unfolding dateStands
 returns-5 c = let none : twoStand (c .before .before .before .before .before .before .before .before .before .before .before .args .s .now) 6 ≡ false = sym (c .before .two-stand3 .ensures) ∙ not-true (c .before .two-stand3 .result) (c .if5 .taken) in rw (dateStands, month (c .before .before .before .before .before .before .before .before), dash (c .before .before .before .before .before .before), day (c .before .before .before .before), space (c .before .before), none)
 
-byte-at-requires-3 : tie.Need-byte-at-requires-3
-byte-at-requires-3 c κs = search needs
-
 returns-6 : tie.Need-returns-6
 unfolding dateStands
 returns-6 c = let none : eqb (byteAt (c .before .before .before .before .before .before .before .before .before .before .before .before .before .args .s .now) 8) 58 ≡ false = ne-eqb (byteAt (c .before .before .before .before .before .before .before .before .before .before .before .before .before .args .s .now) 8) 58 (λ e. c .if6 .taken (c .before .byte-at3 .ensures ∙ e)) in rw (dateStands, month (c .before .before .before .before .before .before .before .before .before .before), dash (c .before .before .before .before .before .before .before .before), day (c .before .before .before .before .before .before), space (c .before .before .before .before), hour (c .before .before), none)
-
-two-stand-requires-4 : tie.Need-two-stand-requires-4
-two-stand-requires-4 c κs = search needs
 
 returns-7 : tie.Need-returns-7
 unfolding dateStands
@@ -80,17 +59,5 @@ pub date-stands-spec : {M : Type 1} → statement M
 date-stands-spec =
     tie.close
     (tie.spec
-    two-stand-requires
-    returns
-    byte-at-requires
-    returns-2
-    two-stand-requires-2
-    returns-3
-    byte-at-requires-2
-    returns-4
-    two-stand-requires-3
-    returns-5
-    byte-at-requires-3
-    returns-6
-    two-stand-requires-4
-    returns-7)
+    (λ c κs. search needs) returns (λ c κs. search needs) returns-2 (λ c κs. search needs) returns-3 (λ c κs. search needs) returns-4
+    (λ c κs. search needs) returns-5 (λ c κs. search needs) returns-6 (λ c κs. search needs) returns-7)

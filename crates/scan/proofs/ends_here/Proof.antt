@@ -7,11 +7,10 @@ use Rattle.scan.proofs.ends_here.Tie as tie
 returns : tie.Need-returns
 returns c = empty-ends (c .before .args .s .now) (c .if1 .taken)
 
-shared-slice-read-result : tie.Need-shared-slice-read-result
-shared-slice-read-result c = search needs
-
 returns-2 : tie.Need-returns-2
 returns-2 c = first-ends (c .before .before .args .s .now) (c .before .if1 .left)
 
 pub ends-here-spec : {M : Type 1} → statement M
-ends-here-spec = tie.close (tie.spec returns shared-slice-read-result returns-2)
+ends-here-spec = tie.close
+    (tie.spec
+    returns (λ c. search needs) returns-2)

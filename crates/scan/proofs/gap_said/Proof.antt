@@ -37,12 +37,6 @@ second c =
     c .place-of2 .ensures ∙ ap (λ (s : List ℕ). placeOf s (a .sep)) (c .before .part .ensures ∙ part-is-rest (a .gap .now) (f .result + 1)) in
     ap (λ (n : ℕ). f .result + 1 + n) rest ∙ ap (λ (n : ℕ). n + 1 + placeOf (drop (n + 1) (a .gap .now)) (a .sep)) (f .ensures)
 
-other-at-requires : tie.Need-other-at-requires
-other-at-requires c κs = search needs
-
-said-requires : tie.Need-said-requires
-said-requires c κs = search needs
-
 returns : tie.Need-returns
 returns c =
     let a = c .before .before .before .before .args in
@@ -50,19 +44,10 @@ returns c =
     let is : ltb (otherAt (a .gap .now) (a .sep)) (length (a .gap .now)) ≡ true = sym (other (c .before .before)) ∙ lt-ltb (o .result) (length (a .gap .now)) (c .before .if1 .taken) in
     c .said .ensures ∙ ap (saidAt 13) (o .ensures) ∙ sym (gap-other (a .gap .now) (a .sep) (a .due) is)
 
-said-requires-2 : tie.Need-said-requires-2
-said-requires-2 c κs = search needs
-
 returns-2 : tie.Need-returns-2
 returns-2 c =
     let a = c .before .before .before .before .before .args in
     c .said2 .ensures ∙ sym (gap-undue (a .gap .now) (a .sep) (a .due) (same (c .before .before)) (not-true (a .due) (c .before .if2 .taken)))
-
-place-of-requires : tie.Need-place-of-requires
-place-of-requires c κs = search needs
-
-said-requires-3 : tie.Need-said-requires-3
-said-requires-3 c κs = search needs
 
 returns-3 : tie.Need-returns-3
 returns-3 c =
@@ -70,15 +55,6 @@ returns-3 c =
     let none : leb (length (a .gap .now)) (placeOf (a .gap .now) (a .sep)) ≡ true =
     sym (first (c .before .before)) ∙ le-leb (length (a .gap .now)) (c .before .before .place-of .result) (c .before .if3 .taken) in
     c .said3 .ensures ∙ sym (gap-none (a .gap .now) (a .sep) (a .due) (same (c .before .before .before .before)) (item (c .before .before .before)) none)
-
-add-past : tie.Need-add-past
-add-past c = search needs
-
-part-requires : tie.Need-part-requires
-part-requires c κs = search needs
-
-place-of-requires-2 : tie.Need-place-of-requires-2
-place-of-requires-2 c κs = search needs
 
 add-second : tie.Need-add-second
 add-second c =
@@ -89,18 +65,12 @@ add-second c =
     let g = f .ensures in
     omega (arith, first-short (λ (b : ℕ). eqb b (a .sep)) s, length-drop (placeOf (a .gap .now) (a .sep) + 1) (a .gap .now))
 
-said-requires-4 : tie.Need-said-requires-4
-said-requires-4 c κs = search needs
-
 returns-4 : tie.Need-returns-4
 returns-4 c =
     let a = c .before .before .before .before .before .before .before .before .before .before .args in
     let e = second (c .before .before) in
     let two : ltb (secondOf (a .gap .now) (a .sep)) (length (a .gap .now)) ≡ true = lt-ltb (secondOf (a .gap .now) (a .sep)) (length (a .gap .now)) (omega (arith, c .before .if4 .taken)) in
     c .said4 .ensures ∙ ap (saidAt 15) e ∙ sym (gap-empty (a .gap .now) (a .sep) (a .due) (same (c .before .before .before .before .before .before .before)) (item (c .before .before .before .before .before .before)) (one (c .before .before .before .before)) two)
-
-said-requires-5 : tie.Need-said-requires-5
-said-requires-5 c κs = search needs
 
 returns-5 : tie.Need-returns-5
 returns-5 c =
@@ -113,19 +83,6 @@ pub gap-said-spec : {M : Type 1} → statement M
 gap-said-spec =
     tie.close
     (tie.spec
-    other-at-requires
-    said-requires
-    returns
-    said-requires-2
-    returns-2
-    place-of-requires
-    said-requires-3
-    returns-3
-    add-past
-    part-requires
-    place-of-requires-2
-    add-second
-    said-requires-4
-    returns-4
-    said-requires-5
-    returns-5)
+    (λ c κs. search needs) (λ c κs. search needs) returns (λ c κs. search needs) returns-2 (λ c κs. search needs) (λ c κs. search needs)
+    returns-3 (λ c. search needs) (λ c κs. search needs) (λ c κs. search needs) add-second (λ c κs. search needs) returns-4
+    (λ c κs. search needs) returns-5)

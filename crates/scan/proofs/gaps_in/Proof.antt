@@ -15,27 +15,12 @@ Inv-loop s i₀ i = (i ≤ length s) × (gapsIn s ≡ i + gapsIn (drop i s))
 abbrev μ-loop : tie.MeasureT-loop
 μ-loop s i₀ i = length s - i
 
-loop-holds : tie.Need-loop-holds Inv-loop μ-loop
-loop-holds c = search needs
-
-shared-slice-read-is-gap : tie.Need-shared-slice-read-is-gap Inv-loop μ-loop
-shared-slice-read-is-gap c = search needs
-
-is-gap-requires : tie.Need-is-gap-requires Inv-loop μ-loop
-is-gap-requires c κs = search needs
-
 returns : tie.Need-returns Inv-loop μ-loop
 returns c =
     let s = c .before .before .before .before .before .before .args .s .now in
     let l = c .before .before .before .before .loop in
     let none = sym (c .before .is-gap .ensures) ∙ not-true (c .before .is-gap .result) (c .if1 .taken) in
     sym (l .inv .1 ∙ gap-stops s (l .i) (c .before .before .before .loop-test .taken) none)
-
-add-i : tie.Need-add-i Inv-loop μ-loop
-add-i c = search needs
-
-loop-less : tie.Need-loop-less Inv-loop μ-loop
-loop-less c = search needs
 
 loop-again : tie.Need-loop-again Inv-loop μ-loop
 loop-again c =
@@ -51,13 +36,5 @@ pub gaps-in-spec : {M : Type 1} → statement M
 gaps-in-spec =
     tie.close
     (tie.spec
-    Inv-loop
-    μ-loop
-    loop-holds
-    shared-slice-read-is-gap
-    is-gap-requires
-    returns
-    add-i
-    loop-less
-    loop-again
-    returns-2)
+    Inv-loop μ-loop (λ c. search needs) (λ c. search needs) (λ c κs. search needs) returns (λ c. search needs) (λ c. search needs)
+    loop-again returns-2)

@@ -10,21 +10,9 @@ returns : tie.Need-returns
 unfolding grown
 returns c = rw (grown, lt-ltb 4294967295 (c .before .args .value) (c .if1 .taken))
 
-mul-result : tie.Need-mul-result
-mul-result c = search needs
-
 returns-2 : tie.Need-returns-2
 unfolding grown
 returns-2 c = rw (grown, le-ltb 4294967295 (c .before .before .args .value) (c .before .if1 .left)) (omega arith)
-
-mul-result-2 : tie.Need-mul-result-2
-mul-result-2 c = search needs
-
-cast-result : tie.Need-cast-result
-cast-result c = search needs
-
-add-result : tie.Need-add-result
-add-result c = search needs
 
 returns-3 : tie.Need-returns-3
 unfolding grown
@@ -32,4 +20,6 @@ returns-3 c = rw (grown, le-ltb 4294967295 (c .before .before .args .value) (c .
 
 pub grown-spec : {M : Type 1} → statement M
 grown-spec =
-    tie.close (tie.spec returns mul-result returns-2 mul-result-2 cast-result add-result returns-3)
+    tie.close
+    (tie.spec
+    returns (λ c. search needs) returns-2 (λ c. search needs) (λ c. search needs) (λ c. search needs) returns-3)

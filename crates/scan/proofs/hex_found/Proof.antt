@@ -13,18 +13,6 @@ high c = c .hex-value .ensures ∙ ap hexValue (c .before .byte-at .ensures)
 low : (c : tie.After-hex-value2) → c .hex-value2 .result ≡ hexValue (byteAt (c .before .before .before .before .before .args .s .now) 1)
 low c = c .hex-value2 .ensures ∙ ap hexValue (c .before .byte-at2 .ensures)
 
-byte-at-requires : tie.Need-byte-at-requires
-byte-at-requires c κs = search needs
-
-hex-value-requires : tie.Need-hex-value-requires
-hex-value-requires c κs = search needs
-
-byte-at-requires-2 : tie.Need-byte-at-requires-2
-byte-at-requires-2 c κs = search needs
-
-hex-value-requires-2 : tie.Need-hex-value-requires-2
-hex-value-requires-2 c κs = search needs
-
 returns : tie.Need-returns
 unfolding hexFound
 returns c = rw (hexFound, ← high (c .before .before .before), lt-ltb 15 (c .before .before .before .hex-value .result) (c .if1 .taken))
@@ -32,18 +20,6 @@ returns c = rw (hexFound, ← high (c .before .before .before), lt-ltb 15 (c .be
 returns-2 : tie.Need-returns-2
 unfolding hexFound
 returns-2 c = rw (hexFound, ← high (c .before .before .before .before), ← low (c .before .before), le-ltb 15 (c .before .before .before .before .hex-value .result) (c .before .if1 .left), lt-ltb 15 (c .before .before .hex-value2 .result) (c .if2 .taken))
-
-cast-t6 : tie.Need-cast-t6
-cast-t6 c = search needs
-
-mul-t7 : tie.Need-mul-t7
-mul-t7 c = search needs
-
-cast-t8 : tie.Need-cast-t8
-cast-t8 c = search needs
-
-add-t9 : tie.Need-add-t9
-add-t9 c = search needs
 
 returns-3 : tie.Need-returns-3
 unfolding hexFound
@@ -53,14 +29,5 @@ pub hex-found-spec : {M : Type 1} → statement M
 hex-found-spec =
     tie.close
     (tie.spec
-    byte-at-requires
-    hex-value-requires
-    byte-at-requires-2
-    hex-value-requires-2
-    returns
-    returns-2
-    cast-t6
-    mul-t7
-    cast-t8
-    add-t9
-    returns-3)
+    (λ c κs. search needs) (λ c κs. search needs) (λ c κs. search needs) (λ c κs. search needs) returns returns-2 (λ c. search needs)
+    (λ c. search needs) (λ c. search needs) (λ c. search needs) returns-3)

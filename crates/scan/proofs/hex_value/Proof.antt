@@ -17,9 +17,6 @@ returns-3 : tie.Need-returns-3
 unfolding hexValue
 returns-3 c = let b = c .before .before .before .args .b in rw (hexValue, le-ltb b 48 (c .before .before .if1 .left), lt-leb b 57 (c .before .if2 .left), lt-ltb b 65 (c .if3 .taken))
 
-sub-result : tie.Need-sub-result
-sub-result c = search needs
-
 returns-4 : tie.Need-returns-4
 unfolding hexValue
 returns-4 c = let b = c .before .before .before .before .args .b in rw (hexValue, le-ltb b 48 (c .before .before .before .if1 .left), lt-leb b 57 (c .before .before .if2 .left), le-ltb b 65 (c .before .if3 .left), le-leb b 70 (c .if4 .taken))
@@ -27,9 +24,6 @@ returns-4 c = let b = c .before .before .before .before .args .b in rw (hexValue
 returns-5 : tie.Need-returns-5
 unfolding hexValue
 returns-5 c = let b = c .before .before .before .before .before .args .b in rw (hexValue, le-ltb b 48 (c .before .before .before .before .if1 .left), lt-leb b 57 (c .before .before .before .if2 .left), le-ltb b 65 (c .before .before .if3 .left), lt-leb b 70 (c .before .if4 .left), lt-ltb b 97 (c .if5 .taken))
-
-sub-result-2 : tie.Need-sub-result-2
-sub-result-2 c = search needs
 
 returns-6 : tie.Need-returns-6
 unfolding hexValue
@@ -43,12 +37,4 @@ pub hex-value-spec : {M : Type 1} → statement M
 hex-value-spec =
     tie.close
     (tie.spec
-    returns
-    returns-2
-    returns-3
-    sub-result
-    returns-4
-    returns-5
-    sub-result-2
-    returns-6
-    returns-7)
+    returns returns-2 returns-3 (λ c. search needs) returns-4 returns-5 (λ c. search needs) returns-6 returns-7)

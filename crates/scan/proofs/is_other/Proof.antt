@@ -6,9 +6,6 @@ use Rattle.scan.specs.Scan.{isOther}
 use Rattle.scan.proofs.is_other.Statement.{statement}
 use Rattle.scan.proofs.is_other.Tie as tie
 
-separates-requires : tie.Need-separates-requires
-separates-requires c κs = search needs
-
 returns : tie.Need-returns
 unfolding isOther
 returns c =
@@ -22,4 +19,6 @@ returns-2 c =
     rw (isOther, is)
 
 pub is-other-spec : {M : Type 1} → statement M
-is-other-spec = tie.close (tie.spec separates-requires returns returns-2)
+is-other-spec = tie.close
+    (tie.spec
+    (λ c κs. search needs) returns returns-2)

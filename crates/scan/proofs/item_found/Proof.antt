@@ -5,36 +5,21 @@ use Rattle.scan.specs.Scan.{itemFound}
 use Rattle.scan.proofs.item_found.Statement.{statement}
 use Rattle.scan.proofs.item_found.Tie as tie
 
-number-found-requires : tie.Need-number-found-requires
-number-found-requires c κs = search needs
-
 returns : tie.Need-returns
 unfolding itemFound
 returns c = rw (itemFound, c .before .if1 .taken) (c .number-found .ensures)
-
-number-found-requires-2 : tie.Need-number-found-requires-2
-number-found-requires-2 c κs = search needs
 
 returns-2 : tie.Need-returns-2
 unfolding itemFound
 returns-2 c = rw (itemFound, c .before .if2 .taken) (c .number-found2 .ensures)
 
-time-found-requires : tie.Need-time-found-requires
-time-found-requires c κs = search needs
-
 returns-3 : tie.Need-returns-3
 unfolding itemFound
 returns-3 c = rw (itemFound, c .before .if3 .taken) (c .time-found .ensures)
 
-hex-found-requires : tie.Need-hex-found-requires
-hex-found-requires c κs = search needs
-
 returns-4 : tie.Need-returns-4
 unfolding itemFound
 returns-4 c = rw (itemFound, c .before .if4 .taken) (c .hex-found .ensures)
-
-number-found-requires-3 : tie.Need-number-found-requires-3
-number-found-requires-3 c κs = search needs
 
 returns-5 : tie.Need-returns-5
 unfolding itemFound
@@ -44,13 +29,5 @@ pub item-found-spec : {M : Type 1} → statement M
 item-found-spec =
     tie.close
     (tie.spec
-    number-found-requires
-    returns
-    number-found-requires-2
-    returns-2
-    time-found-requires
-    returns-3
-    hex-found-requires
-    returns-4
-    number-found-requires-3
-    returns-5)
+    (λ c κs. search needs) returns (λ c κs. search needs) returns-2 (λ c κs. search needs) returns-3 (λ c κs. search needs) returns-4
+    (λ c κs. search needs) returns-5)

@@ -5,9 +5,6 @@ use Rattle.scan.specs.Scan.{numberFound}
 use Rattle.scan.proofs.number_found.Statement.{statement}
 use Rattle.scan.proofs.number_found.Tie as tie
 
-run-of-requires : tie.Need-run-of-requires
-run-of-requires c κs = search needs
-
 returns : tie.Need-returns
 unfolding numberFound
 returns c = let run = c .before .before .run-of in rw (numberFound, ← run .ensures, eq-eqb (run .result .used) 0 (c .if1 .taken))
@@ -16,12 +13,11 @@ returns-2 : tie.Need-returns-2
 unfolding numberFound
 returns-2 c = let run = c .before .before .before .before .run-of in rw (numberFound, ← run .ensures, ne-eqb (run .result .used) 0 (c .before .before .if1 .left), lt-ltb (c .before .before .before .before .before .before .args .most) (run .result .value) (c .if2 .taken))
 
-cast-t8 : tie.Need-cast-t8
-cast-t8 c = search needs
-
 returns-3 : tie.Need-returns-3
 unfolding numberFound
 returns-3 c = let run = c .before .before .before .before .before .run-of in rw (numberFound, ← run .ensures, ne-eqb (run .result .used) 0 (c .before .before .before .if1 .left), le-ltb (c .before .before .before .before .before .before .before .args .most) (run .result .value) (c .before .if2 .left))
 
 pub number-found-spec : {M : Type 1} → statement M
-number-found-spec = tie.close (tie.spec run-of-requires returns returns-2 cast-t8 returns-3)
+number-found-spec = tie.close
+    (tie.spec
+    (λ c κs. search needs) returns returns-2 (λ c. search needs) returns-3)

@@ -14,27 +14,12 @@ Inv-loop gap sep at₀ at = (at ≤ length gap) × (otherAt gap sep ≡ at + oth
 abbrev μ-loop : tie.MeasureT-loop
 μ-loop gap sep at₀ at = length gap - at
 
-loop-holds : tie.Need-loop-holds Inv-loop μ-loop
-loop-holds c = search needs
-
-shared-slice-read-is-other : tie.Need-shared-slice-read-is-other Inv-loop μ-loop
-shared-slice-read-is-other c = search needs
-
-is-other-requires : tie.Need-is-other-requires Inv-loop μ-loop
-is-other-requires c κs = search needs
-
 returns : tie.Need-returns Inv-loop μ-loop
 returns c =
     let a = c .before .before .before .before .before .before .args in
     let l = c .before .before .before .before .loop in
     let other = sym (c .before .is-other .ensures) ∙ c .if1 .taken in
     sym (l .inv .1 ∙ first-stops (λ (b : ℕ). isOther b (a .sep)) (a .gap .now) (l .at) (c .before .before .before .loop-test .taken) other)
-
-add-at : tie.Need-add-at Inv-loop μ-loop
-add-at c = search needs
-
-loop-less : tie.Need-loop-less Inv-loop μ-loop
-loop-less c = search needs
 
 loop-again : tie.Need-loop-again Inv-loop μ-loop
 loop-again c =
@@ -53,13 +38,5 @@ pub other-at-spec : {M : Type 1} → statement M
 other-at-spec =
     tie.close
     (tie.spec
-    Inv-loop
-    μ-loop
-    loop-holds
-    shared-slice-read-is-other
-    is-other-requires
-    returns
-    add-at
-    loop-less
-    loop-again
-    returns-2)
+    Inv-loop μ-loop (λ c. search needs) (λ c. search needs) (λ c κs. search needs) returns (λ c. search needs) (λ c. search needs)
+    loop-again returns-2)

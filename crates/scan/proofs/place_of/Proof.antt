@@ -16,24 +16,12 @@ Inv-loop gap sep at₀ at = (at ≤ length gap) × (placeOf gap sep ≡ at + pla
 abbrev μ-loop : tie.MeasureT-loop
 μ-loop gap sep at₀ at = length gap - at
 
-loop-holds : tie.Need-loop-holds Inv-loop μ-loop
-loop-holds c = search needs
-
-shared-slice-read-if1 : tie.Need-shared-slice-read-if1 Inv-loop μ-loop
-shared-slice-read-if1 c = search needs
-
 returns : tie.Need-returns Inv-loop μ-loop
 returns c =
     let a = c .before .before .before .before .args in
     let l = c .before .before .before .loop in
     let is = eq-eqb (getD (a .gap .now) (l .at) 0) (a .sep) (c .if1 .taken) in
     sym (l .inv .1 ∙ first-stops (λ (b : ℕ). eqb b (a .sep)) (a .gap .now) (l .at) (c .before .before .loop-test .taken) is)
-
-add-at : tie.Need-add-at Inv-loop μ-loop
-add-at c = search needs
-
-loop-less : tie.Need-loop-less Inv-loop μ-loop
-loop-less c = search needs
 
 loop-again : tie.Need-loop-again Inv-loop μ-loop
 loop-again c =
@@ -52,12 +40,4 @@ pub place-of-spec : {M : Type 1} → statement M
 place-of-spec =
     tie.close
     (tie.spec
-    Inv-loop
-    μ-loop
-    loop-holds
-    shared-slice-read-if1
-    returns
-    add-at
-    loop-less
-    loop-again
-    returns-2)
+    Inv-loop μ-loop (λ c. search needs) (λ c. search needs) returns (λ c. search needs) (λ c. search needs) loop-again returns-2)

@@ -15,20 +15,11 @@ Inv-loop line i₀ i = (i ≤ length line) × (separatorOf line ≡ separatorOf 
 abbrev μ-loop : tie.MeasureT-loop
 μ-loop line i₀ i = length line - i
 
-loop-holds : tie.Need-loop-holds Inv-loop μ-loop
-loop-holds c = search needs
-
-shared-slice-read-b : tie.Need-shared-slice-read-b Inv-loop μ-loop
-shared-slice-read-b c = search needs
-
 returns : tie.Need-returns Inv-loop μ-loop
 returns c =
     let s = c .before .before .before .before .before .args .line .now in
     let l = c .before .before .before .loop in
     sym (l .inv .1 ∙ comment-first s (l .i) (c .before .before .loop-test .taken) (c .if1 .taken))
-
-separates-requires : tie.Need-separates-requires Inv-loop μ-loop
-separates-requires c κs = search needs
 
 returns-2 : tie.Need-returns-2 Inv-loop μ-loop
 returns-2 c =
@@ -37,12 +28,6 @@ returns-2 c =
     let no = ne-eqb (getD s (l .i) 0) 35 (c .before .before .if1 .left) in
     let is = sym (c .before .separates .ensures) ∙ c .if2 .taken in
     sym (l .inv .1 ∙ separator-here s (l .i) (c .before .before .before .before .loop-test .taken) no is)
-
-add-i : tie.Need-add-i Inv-loop μ-loop
-add-i c = search needs
-
-loop-less : tie.Need-loop-less Inv-loop μ-loop
-loop-less c = search needs
 
 loop-again : tie.Need-loop-again Inv-loop μ-loop
 loop-again c =
@@ -61,14 +46,5 @@ pub separator-of-spec : {M : Type 1} → statement M
 separator-of-spec =
     tie.close
     (tie.spec
-    Inv-loop
-    μ-loop
-    loop-holds
-    shared-slice-read-b
-    returns
-    separates-requires
-    returns-2
-    add-i
-    loop-less
-    loop-again
-    returns-3)
+    Inv-loop μ-loop (λ c. search needs) (λ c. search needs) returns (λ c κs. search needs) returns-2 (λ c. search needs) (λ c. search needs)
+    loop-again returns-3)

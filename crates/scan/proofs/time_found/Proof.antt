@@ -7,18 +7,9 @@ use Rattle.scan.specs.Scan.{timeFound}
 use Rattle.scan.proofs.time_found.Statement.{statement}
 use Rattle.scan.proofs.time_found.Tie as tie
 
-byte-at-requires : tie.Need-byte-at-requires
-byte-at-requires c κs = search needs
-
-date-found-requires : tie.Need-date-found-requires
-date-found-requires c κs = search needs
-
 returns : tie.Need-returns
 unfolding timeFound
 returns c = let s = c .before .before .before .before .args .s .now in rw (timeFound, eq-eqb (byteAt s 2) 45 (sym (c .before .before .byte-at .ensures) ∙ c .before .if1 .taken)) (c .date-found .ensures)
-
-number-found-requires : tie.Need-number-found-requires
-number-found-requires c κs = search needs
 
 returns-2 : tie.Need-returns-2
 unfolding timeFound
@@ -27,4 +18,5 @@ returns-2 c = let s = c .before .before .before .before .args .s .now in rw (tim
 pub time-found-spec : {M : Type 1} → statement M
 time-found-spec =
     tie.close
-    (tie.spec byte-at-requires date-found-requires returns number-found-requires returns-2)
+    (tie.spec
+    (λ c κs. search needs) (λ c κs. search needs) returns (λ c κs. search needs) returns-2)

@@ -10,9 +10,6 @@ use Rattle.scan.proofs.ScanLaws.{none-far}
 use Rattle.scan.proofs.two_at.Statement.{statement}
 use Rattle.scan.proofs.two_at.Tie as tie
 
-two-stand-requires : tie.Need-two-stand-requires
-two-stand-requires c κs = search needs
-
 returns : tie.Need-returns
 unfolding twoAt
 returns c = rw (twoAt, ← c .before .two-stand .ensures, not-true (c .before .two-stand .result) (c .if1 .taken))
@@ -20,27 +17,6 @@ returns c = rw (twoAt, ← c .before .two-stand .ensures, not-true (c .before .t
 returns-2 : tie.Need-returns-2
 unfolding twoAt
 returns-2 c = rw (twoAt, none-far (c .before .before .before .before .args .s .now) (c .before .before .before .before .args .at) (c .if2 .taken))
-
-byte-at-requires : tie.Need-byte-at-requires
-byte-at-requires c κs = search needs
-
-digit-of-requires : tie.Need-digit-of-requires
-digit-of-requires c κs = search needs
-
-mul-result : tie.Need-mul-result
-mul-result c = search needs
-
-add-byte-at : tie.Need-add-byte-at
-add-byte-at c = search needs
-
-byte-at-requires-2 : tie.Need-byte-at-requires-2
-byte-at-requires-2 c κs = search needs
-
-digit-of-requires-2 : tie.Need-digit-of-requires-2
-digit-of-requires-2 c κs = search needs
-
-add-result : tie.Need-add-result
-add-result c = search needs
 
 returns-3 : tie.Need-returns-3
 unfolding twoAt
@@ -56,14 +32,5 @@ pub two-at-spec : {M : Type 1} → statement M
 two-at-spec =
     tie.close
     (tie.spec
-    two-stand-requires
-    returns
-    returns-2
-    byte-at-requires
-    digit-of-requires
-    mul-result
-    add-byte-at
-    byte-at-requires-2
-    digit-of-requires-2
-    add-result
-    returns-3)
+    (λ c κs. search needs) returns returns-2 (λ c κs. search needs) (λ c κs. search needs) (λ c. search needs) (λ c. search needs)
+    (λ c κs. search needs) (λ c κs. search needs) (λ c. search needs) returns-3)

@@ -13,12 +13,6 @@ use Rattle.scan.proofs.two_stand.Tie as tie
 returns : tie.Need-returns
 returns c = sym (none-far (c .before .before .args .s .now) (c .before .before .args .at) (c .if1 .taken))
 
-byte-at-requires : tie.Need-byte-at-requires
-byte-at-requires c κs = search needs
-
-is-digit-requires : tie.Need-is-digit-requires
-is-digit-requires c κs = search needs
-
 returns-2 : tie.Need-returns-2
 unfolding twoStand
 returns-2 c =
@@ -26,15 +20,6 @@ returns-2 c =
     let digit = c .before .is-digit in
     let none : isDigit (byteAt (a .s .now) (a .at)) ≡ false = ap isDigit (sym (c .before .before .byte-at .ensures)) ∙ sym (digit .ensures) ∙ not-true (digit .result) (c .if2 .taken) in
     rw (twoStand, lt-ltb (a .at) 16 (c .before .before .before .if1 .left), none)
-
-add-byte-at : tie.Need-add-byte-at
-add-byte-at c = search needs
-
-byte-at-requires-2 : tie.Need-byte-at-requires-2
-byte-at-requires-2 c κs = search needs
-
-is-digit-requires-2 : tie.Need-is-digit-requires-2
-is-digit-requires-2 c κs = search needs
 
 returns-3 : tie.Need-returns-3
 unfolding twoStand
@@ -48,11 +33,5 @@ pub two-stand-spec : {M : Type 1} → statement M
 two-stand-spec =
     tie.close
     (tie.spec
-    returns
-    byte-at-requires
-    is-digit-requires
-    returns-2
-    add-byte-at
-    byte-at-requires-2
-    is-digit-requires-2
+    returns (λ c κs. search needs) (λ c κs. search needs) returns-2 (λ c. search needs) (λ c κs. search needs) (λ c κs. search needs)
     returns-3)

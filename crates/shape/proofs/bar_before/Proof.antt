@@ -54,8 +54,7 @@ returns-7 c =
     let k = c .before .before .before .before .before .args .k in
     rw (barBefore, ne-eqb kind 1 (c .before .before .before .before .if1 .left), ne-eqb kind 4 (c .before .before .before .if2 .left), le-ltb k 4 (c .before .before .if3 .left), ne-eqb k 4 (c .before .if4 .left), ne-eqb kind 2 (c .if5 .left))
 
-sub-result : tie.Need-sub-result
-sub-result c = search needs
-
 pub bar-before-spec : {M : Type 1} → statement M
-bar-before-spec = tie.close (tie.spec returns returns-2 returns-3 returns-4 returns-5 returns-6 sub-result returns-7)
+bar-before-spec = tie.close
+    (tie.spec
+    returns returns-2 returns-3 returns-4 returns-5 returns-6 (λ c. search needs) returns-7)

@@ -52,8 +52,7 @@ returns-7 c =
     let k = c .before .before .before .before .before .args .k in
     rw (eventItem, ne-eqb k 0 (c .before .before .before .before .if1 .left), le-ltb k 4 (c .before .before .before .if2 .left), ne-eqb k 4 (c .before .before .if3 .left), ne-eqb kind 2 (c .before .if4 .left), ne-eqb ((k - 5) % 4) 0 (c .if6 .left))
 
-sub-if6 : tie.Need-sub-if6
-sub-if6 c = search needs
-
 pub event-item-spec : {M : Type 1} → statement M
-event-item-spec = tie.close (tie.spec returns returns-2 returns-3 returns-4 returns-5 sub-if6 returns-6 returns-7)
+event-item-spec = tie.close
+    (tie.spec
+    returns returns-2 returns-3 returns-4 returns-5 (λ c. search needs) returns-6 returns-7)

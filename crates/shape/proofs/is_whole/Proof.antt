@@ -57,11 +57,7 @@ returns-7 c =
     ap (eqb count) (c .most-of .ensures) ∙
     rw (wholeOf, ne-eqb kind 3 (c .before .before .before .if1 .left), ne-eqb kind 4 (c .before .before .if4 .left), ne-eqb count 0 (c .before .if6 .left)) refl
 
-sub-result : tie.Need-sub-result
-sub-result c = search needs
-
-most-of-requires : tie.Need-most-of-requires
-most-of-requires c κs = search needs
-
 pub is-whole-spec : {M : Type 1} → statement M
-is-whole-spec = tie.close (tie.spec returns returns-2 sub-result returns-3 returns-4 returns-5 returns-6 most-of-requires returns-7)
+is-whole-spec = tie.close
+    (tie.spec
+    returns returns-2 (λ c. search needs) returns-3 returns-4 returns-5 returns-6 (λ c κs. search needs) returns-7)

@@ -33,8 +33,7 @@ returns-4 c =
     let kind = c .before .before .before .args .kind in
     c .event-item .ensures ∙ rw (itemOf, ne-eqb kind 4 (c .before .before .if1 .left), ne-eqb kind 1 (c .before .if2 .left)) refl
 
-event-item-requires : tie.Need-event-item-requires
-event-item-requires c κs = search needs
-
 pub item-of-spec : {M : Type 1} → statement M
-item-of-spec = tie.close (tie.spec returns returns-2 returns-3 event-item-requires returns-4)
+item-of-spec = tie.close
+    (tie.spec
+    returns returns-2 returns-3 (λ c κs. search needs) returns-4)

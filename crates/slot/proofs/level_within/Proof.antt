@@ -15,9 +15,6 @@ returns c =
     let a = c .before .before .args in
     ap (λ t. t && leb (a .halves .0) (2 * a .customers .0 * a .minutes)) (sym (lt-leb (a .customers .0) 10000000 (c .if1 .taken)))
 
-mul-result : tie.Need-mul-result
-mul-result c = search needs
-
 mul-result-2 : tie.Need-mul-result-2
 mul-result-2 c =
     let a = c .before .before .before .args in
@@ -30,4 +27,6 @@ returns-2 c =
     ap (λ t. t && leb (a .halves .0) (2 * a .customers .0 * a .minutes)) (sym (le-leb (a .customers .0) 10000000 (c .before .before .if1 .left)))
 
 pub level-within-spec : {M : Type 1} → statement M
-level-within-spec = tie.close (tie.spec returns mul-result mul-result-2 returns-2)
+level-within-spec = tie.close
+    (tie.spec
+    returns (λ c. search needs) mul-result-2 returns-2)

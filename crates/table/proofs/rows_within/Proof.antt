@@ -16,24 +16,6 @@ Inv-loop rows ok₀ i₀ ok i = (i ≤ 62) × (every rowWithin rows ≡ (ok && e
 abbrev μ-loop : tie.MeasureT-loop
 μ-loop rows ok₀ i₀ ok i = 62 - i
 
-loop-holds : tie.Need-loop-holds Inv-loop μ-loop
-loop-holds c = search needs
-
-mul-within : tie.Need-mul-within Inv-loop μ-loop
-mul-within c = search needs
-
-array-copy-out-within : tie.Need-array-copy-out-within Inv-loop μ-loop
-array-copy-out-within c = search needs
-
-within-requires : tie.Need-within-requires Inv-loop μ-loop
-within-requires c κs = search needs
-
-add-i : tie.Need-add-i Inv-loop μ-loop
-add-i c = search needs
-
-loop-less : tie.Need-loop-less Inv-loop μ-loop
-loop-less c = search needs
-
 loop-again : tie.Need-loop-again Inv-loop μ-loop
 loop-again c =
     let a = c .before .before .before .before .args in
@@ -55,13 +37,5 @@ pub rows-within-spec : {M : Type 1} → statement M
 rows-within-spec =
     tie.close
     (tie.spec
-    Inv-loop
-    μ-loop
-    loop-holds
-    mul-within
-    array-copy-out-within
-    within-requires
-    add-i
-    loop-less
-    loop-again
-    returns)
+    Inv-loop μ-loop (λ c. search needs) (λ c. search needs) (λ c. search needs) (λ c κs. search needs) (λ c. search needs)
+    (λ c. search needs) loop-again returns)

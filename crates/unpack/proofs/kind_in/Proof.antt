@@ -8,16 +8,10 @@ use borrow.Author.Needs.{needs}
 use Rattle.unpack.proofs.kind_in.Statement.{statement}
 use Rattle.unpack.proofs.kind_in.Tie as tie
 
-is-framed-requires : tie.Need-is-framed-requires
-is-framed-requires c κs = search needs
-
 returns : tie.Need-returns
 returns c =
     let s = c .before .before .before .args .s .now in
     kind-unframed s (sym (c .before .is-framed .ensures) ∙ not-true (c .before .is-framed .result) (c .if1 .taken))
-
-kind-of-requires : tie.Need-kind-of-requires
-kind-of-requires c κs = search needs
 
 returns-2 : tie.Need-returns-2
 returns-2 c =
@@ -54,9 +48,6 @@ returns-6 c =
     let k = c .before .before .before .kind-of .ensures in
     kind-other s f (λ e. c .before .before .if2 .left (k ∙ e)) (λ e. c .before .if4 .left (k ∙ e)) (λ e. c .if6 .taken (k ∙ e))
 
-byte-at-requires : tie.Need-byte-at-requires
-byte-at-requires c κs = search needs
-
 returns-7 : tie.Need-returns-7
 returns-7 c =
     let s = c .before .before .before .before .before .before .before .before .before .args .s .now in
@@ -70,15 +61,6 @@ returns-8 c =
     let f = sym (c .before .before .before .before .before .before .before .before .is-framed .ensures) ∙ not-false (c .before .before .before .before .before .before .before .before .is-framed .result) (c .before .before .before .before .before .before .before .if1 .left) in
     let k = c .before .before .before .before .before .before .kind-of .ensures in
     stepped-many s f (sym k ∙ c .before .before .before .if6 .left) (λ e. c .before .if7 .left (c .before .before .byte-at .ensures ∙ e)) (omega (arith, c .before .before .byte-at .ensures, c .if8 .taken))
-
-cast-if9 : tie.Need-cast-if9
-cast-if9 c = search needs
-
-mul-if9 : tie.Need-mul-if9
-mul-if9 c = search needs
-
-add-if9 : tie.Need-add-if9
-add-if9 c = search needs
 
 returns-9 : tie.Need-returns-9
 returns-9 c =
@@ -100,19 +82,5 @@ pub kind-in-spec : {M : Type 1} → statement M
 kind-in-spec =
     tie.close
     (tie.spec
-    is-framed-requires
-    returns
-    kind-of-requires
-    returns-2
-    returns-3
-    returns-4
-    returns-5
-    returns-6
-    byte-at-requires
-    returns-7
-    returns-8
-    cast-if9
-    mul-if9
-    add-if9
-    returns-9
-    returns-10)
+    (λ c κs. search needs) returns (λ c κs. search needs) returns-2 returns-3 returns-4 returns-5 returns-6 (λ c κs. search needs) returns-7
+    returns-8 (λ c. search needs) (λ c. search needs) (λ c. search needs) returns-9 returns-10)

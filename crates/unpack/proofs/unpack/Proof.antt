@@ -16,34 +16,13 @@ Inv-loop s kind values₀ k₀ count values k = (values ≡ filled k s kind) × 
 abbrev μ-loop : tie.MeasureT-loop
 μ-loop s kind values₀ k₀ count values k = count - k
 
-kind-in-requires : tie.Need-kind-in-requires Inv-loop μ-loop
-kind-in-requires c κs = search needs
-
 returns : tie.Need-returns Inv-loop μ-loop
 returns c = blank-of (c .before .before .before .args .s .now) (c .before .kind-in .result) (c .before .kind-in .ensures) (c .if1 .taken)
-
-count-in-requires : tie.Need-count-in-requires Inv-loop μ-loop
-count-in-requires c κs = search needs
 
 loop-holds : tie.Need-loop-holds Inv-loop μ-loop
 loop-holds c =
     let kind = c .before .before .kind-in in
     (refl, omega arith, omega (arith, c .count-in .ensures, count-few (c .before .before .before .before .args .s .now) (kind .result) (kind .ensures)))
-
-value-in-requires : tie.Need-value-in-requires Inv-loop μ-loop
-value-in-requires c κs = search needs
-
-mul-values : tie.Need-mul-values Inv-loop μ-loop
-mul-values c = search needs
-
-array-write-values : tie.Need-array-write-values Inv-loop μ-loop
-array-write-values c = search needs
-
-add-k : tie.Need-add-k Inv-loop μ-loop
-add-k c = search needs
-
-loop-less : tie.Need-loop-less Inv-loop μ-loop
-loop-less c = search needs
 
 loop-again : tie.Need-loop-again Inv-loop μ-loop
 loop-again c =
@@ -73,17 +52,5 @@ pub unpack-spec : {M : Type 1} → statement M
 unpack-spec =
     tie.close
     (tie.spec
-    Inv-loop
-    μ-loop
-    kind-in-requires
-    returns
-    count-in-requires
-    loop-holds
-    value-in-requires
-    mul-values
-    array-write-values
-    add-k
-    loop-less
-    loop-again
-    returns-2
-    returns-3)
+    Inv-loop μ-loop (λ c κs. search needs) returns (λ c κs. search needs) loop-holds (λ c κs. search needs) (λ c. search needs)
+    (λ c. search needs) (λ c. search needs) (λ c. search needs) loop-again returns-2 returns-3)

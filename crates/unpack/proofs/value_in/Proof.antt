@@ -8,65 +8,20 @@ use Rattle.unpack.proofs.value_in.Tie as tie
 returns : tie.Need-returns
 returns c = let a = c .before .before .args in value-past (a .s .now) (a .kind) (a .k) (c .if1 .taken)
 
-u16-at-requires : tie.Need-u16-at-requires
-u16-at-requires c κs = search needs
-
-cast-result : tie.Need-cast-result
-cast-result c = search needs
-
 returns-2 : tie.Need-returns-2
 returns-2 c = let a = c .before .before .before .before .args in c .u16-at .ensures ∙ value-first (a .s .now) (a .kind) (a .k) (c .before .before .if1 .left) (c .before .if2 .taken)
-
-mul-u32-at : tie.Need-mul-u32-at
-mul-u32-at c = search needs
-
-add-u32-at : tie.Need-add-u32-at
-add-u32-at c = search needs
-
-u32-at-requires : tie.Need-u32-at-requires
-u32-at-requires c κs = search needs
 
 returns-3 : tie.Need-returns-3
 returns-3 c = let a = c .before .before .before .before .before .args in c .u32-at .ensures ∙ value-sheet (a .s .now) (a .kind) (a .k) (c .before .before .before .if1 .left) (c .before .before .if2 .left) (c .before .if3 .taken)
 
-add-byte-at : tie.Need-add-byte-at
-add-byte-at c = search needs
-
-byte-at-requires : tie.Need-byte-at-requires
-byte-at-requires c κs = search needs
-
-cast-result-2 : tie.Need-cast-result-2
-cast-result-2 c = search needs
-
 returns-4 : tie.Need-returns-4
 returns-4 c = let a = c .before .before .before .before .before .before .args in c .byte-at .ensures ∙ value-code (a .s .now) (a .kind) (a .k) (c .before .before .before .before .if1 .left) (c .before .before .before .if2 .left) (c .before .before .if3 .left) (c .before .if4 .taken)
-
-u32-at-requires-2 : tie.Need-u32-at-requires-2
-u32-at-requires-2 c κs = search needs
 
 returns-5 : tie.Need-returns-5
 returns-5 c = let a = c .before .before .before .before .before .before .before .args in c .u32-at2 .ensures ∙ value-start (a .s .now) (a .kind) (a .k) (c .before .before .before .before .before .if1 .left) (c .before .before .before .before .if2 .left) (c .before .before .before .if3 .left) (c .before .before .if4 .left) (c .before .if5 .taken)
 
-mul-u32-at-2 : tie.Need-mul-u32-at-2
-mul-u32-at-2 c = search needs
-
-sub-u32-at : tie.Need-sub-u32-at
-sub-u32-at c = search needs
-
-u32-at-requires-3 : tie.Need-u32-at-requires-3
-u32-at-requires-3 c κs = search needs
-
 returns-6 : tie.Need-returns-6
 returns-6 c = let a = c .before .before .before .before .before .before .before .before .args in c .u32-at3 .ensures ∙ value-simple (a .s .now) (a .kind) (a .k) (c .before .before .before .before .before .before .if1 .left) (c .before .before .before .before .before .if2 .left) (c .before .before .before .before .if3 .left) (c .before .before .before .if4 .left) (c .before .before .if5 .left) (c .before .if6 .taken)
-
-mul-u32-at-3 : tie.Need-mul-u32-at-3
-mul-u32-at-3 c = search needs
-
-sub-u32-at-2 : tie.Need-sub-u32-at-2
-sub-u32-at-2 c = search needs
-
-u32-at-requires-4 : tie.Need-u32-at-requires-4
-u32-at-requires-4 c κs = search needs
 
 returns-7 : tie.Need-returns-7
 returns-7 c = let a = c .before .before .before .before .before .before .before .before .args in c .u32-at4 .ensures ∙ value-stepped (a .s .now) (a .kind) (a .k) (c .before .before .before .before .before .before .if1 .left) (c .before .before .before .before .before .if2 .left) (c .before .before .before .before .if3 .left) (c .before .before .before .if4 .left) (c .before .before .if5 .left) (c .before .if6 .left)
@@ -75,25 +30,6 @@ pub value-in-spec : {M : Type 1} → statement M
 value-in-spec =
     tie.close
     (tie.spec
-    returns
-    u16-at-requires
-    cast-result
-    returns-2
-    mul-u32-at
-    add-u32-at
-    u32-at-requires
-    returns-3
-    add-byte-at
-    byte-at-requires
-    cast-result-2
-    returns-4
-    u32-at-requires-2
-    returns-5
-    mul-u32-at-2
-    sub-u32-at
-    u32-at-requires-3
-    returns-6
-    mul-u32-at-3
-    sub-u32-at-2
-    u32-at-requires-4
-    returns-7)
+    returns (λ c κs. search needs) (λ c. search needs) returns-2 (λ c. search needs) (λ c. search needs) (λ c κs. search needs) returns-3
+    (λ c. search needs) (λ c κs. search needs) (λ c. search needs) returns-4 (λ c κs. search needs) returns-5 (λ c. search needs)
+    (λ c. search needs) (λ c κs. search needs) returns-6 (λ c. search needs) (λ c. search needs) (λ c κs. search needs) returns-7)

@@ -11,20 +11,11 @@ use Rattle.unpack.proofs.year_after.Tie as tie
 returns : tie.Need-returns
 returns c = let a = c .before .before .args in year-kept (a .year) (a .s .now) (c .if1 .taken)
 
-kind-in-requires : tie.Need-kind-in-requires
-kind-in-requires c κs = search needs
-
 returns-2 : tie.Need-returns-2
 returns-2 c =
     let a = c .before .before .before .before .args in
     let k = c .before .kind-in .ensures in
     year-none (a .year) (a .s .now) (c .before .before .if1 .left) (λ e. c .if2 .taken (k ∙ e))
-
-sheet-of-requires : tie.Need-sheet-of-requires
-sheet-of-requires c κs = search needs
-
-in-range-requires : tie.Need-in-range-requires
-in-range-requires c κs = search needs
 
 returns-3 : tie.Need-returns-3
 returns-3 c =
@@ -44,10 +35,4 @@ pub year-after-spec : {M : Type 1} → statement M
 year-after-spec =
     tie.close
     (tie.spec
-    returns
-    kind-in-requires
-    returns-2
-    sheet-of-requires
-    in-range-requires
-    returns-3
-    returns-4)
+    returns (λ c κs. search needs) returns-2 (λ c κs. search needs) (λ c κs. search needs) returns-3 returns-4)

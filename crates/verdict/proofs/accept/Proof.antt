@@ -7,24 +7,12 @@ use borrow.Author.Needs.{needs}
 use Rattle.verdict.proofs.accept.Statement.{statement}
 use Rattle.verdict.proofs.accept.Tie as tie
 
-is-short-requires : tie.Need-is-short-requires
-is-short-requires c κs = search needs
-
-row-of-requires : tie.Need-row-of-requires
-row-of-requires c κs = search needs
-
-none-requires : tie.Need-none-requires
-none-requires c κs = search needs
-
 returns : tie.Need-returns
 returns c =
     let a = c .before .before .before .before .args in
     let e : isShort (a .head .t0) (a .end) ≡ true = sym (c .before .before .before .is-short .ensures) ∙ c .before .before .if1 .taken in
     (λ i. record { answer = 0; sheet = a .sheet; number = a .head .number; events = 1; short = 1; row = c .before .row-of .ensures i; figures = c .none .ensures i }) ∙
     sym (event-short (a .sheet) (a .head) (a .end) (a .figures) e)
-
-row-of-requires-2 : tie.Need-row-of-requires-2
-row-of-requires-2 c κs = search needs
 
 returns-2 : tie.Need-returns-2
 returns-2 c =
@@ -36,4 +24,5 @@ returns-2 c =
 pub accept-spec : {M : Type 1} → statement M
 accept-spec =
     tie.close
-    (tie.spec is-short-requires row-of-requires none-requires returns row-of-requires-2 returns-2)
+    (tie.spec
+    (λ c κs. search needs) (λ c κs. search needs) (λ c κs. search needs) returns (λ c κs. search needs) returns-2)

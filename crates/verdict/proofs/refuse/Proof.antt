@@ -3,13 +3,12 @@ use borrow.Author.Needs.{needs}
 use Rattle.verdict.proofs.refuse.Statement.{statement}
 use Rattle.verdict.proofs.refuse.Tie as tie
 
-none-requires : tie.Need-none-requires
-none-requires c κs = search needs
-
 returns : tie.Need-returns
 returns c =
     let a = c .before .args in
     λ i. record { answer = a .answer; sheet = a .sheet; number = 0; events = 0; short = 0; row = 0; figures = c .none .ensures i }
 
 pub refuse-spec : {M : Type 1} → statement M
-refuse-spec = tie.close (tie.spec none-requires returns)
+refuse-spec = tie.close
+    (tie.spec
+    (λ c κs. search needs) returns)

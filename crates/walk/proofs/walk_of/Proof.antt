@@ -11,10 +11,10 @@ use mir.Val.{Val}
 use denote.Array.{each}
 use denote.Plain.{UInt}
 use denote.Shadow.{shadow}
-use Rattle.annex.specs.Bounds.{Few, Timely}
-use Rattle.annex.proofs.Bounds.{timely-nothing}
+use Rattle.annex.specs.Inside.{Few, Timely}
+use Rattle.annex.proofs.Bounds.{timely-begun}
 use Rattle.fields.specs.Fields.{stepAt, stepsFrom}
-use Rattle.walk.specs.Walk.{begun, walkedStep, walked}
+use Rattle.walk.specs.Walk.{setOut, walkedStep, walked}
 use Rattle.walk.proofs.WalkLaws.{timely-kept, one-taken}
 use Rattle.walk.proofs.walk_of.Statement.{statement}
 use Rattle.walk.proofs.walk_of.Tie as tie
@@ -29,37 +29,22 @@ words-few n us p =
 abbrev Inv-loop : tie.InvT-loop
 Inv-loop s steps t0 w₀ at₀ left₀ w at left =
     (at + 16 * left ≡ 14 + 16 * steps) ×
-    Timely (w .figures) (w .last) ×
-    (walked (begun t0) (stepsFrom s steps 14) ≡ walked w (stepsFrom s left at))
+    Timely (w .course) ×
+    (walked (setOut t0) (stepsFrom s steps 14) ≡ walked w (stepsFrom s left at))
 
 abbrev μ-loop : tie.MeasureT-loop
 μ-loop s steps t0 w₀ at₀ left₀ w at left = left
-
-begin-requires : tie.Need-begin-requires Inv-loop μ-loop
-begin-requires c κs = search needs
 
 loop-holds : tie.Need-loop-holds Inv-loop μ-loop
 loop-holds c =
     let a = c .before .before .args in (
       refl,
-      rw (c .begin .ensures) (timely-nothing (a .t0)),
+      rw (c .begin .ensures) (timely-begun (a .t0)),
       ap (λ w. walked w (stepsFrom (a .s .now) (a .steps) 14)) (sym (c .begin .ensures)),
     )
 
-step-at-requires : tie.Need-step-at-requires Inv-loop μ-loop
-step-at-requires c κs = search needs
-
 with-requires : tie.Need-with-requires Inv-loop μ-loop
 with-requires c κs = c .before .before .loop .inv .1
-
-add-at : tie.Need-add-at Inv-loop μ-loop
-add-at c = search needs
-
-sub-left : tie.Need-sub-left Inv-loop μ-loop
-sub-left c = search needs
-
-loop-less : tie.Need-loop-less Inv-loop μ-loop
-loop-less c = search needs
 
 loop-again : tie.Need-loop-again Inv-loop μ-loop
 loop-again c =
@@ -87,14 +72,5 @@ pub walk-of-spec : {M : Type 1} → statement M
 walk-of-spec =
     tie.close
     (tie.spec
-    Inv-loop
-    μ-loop
-    begin-requires
-    loop-holds
-    step-at-requires
-    with-requires
-    add-at
-    sub-left
-    loop-less
-    loop-again
-    returns)
+    Inv-loop μ-loop (λ c κs. search needs) loop-holds (λ c κs. search needs) with-requires (λ c. search needs) (λ c. search needs)
+    (λ c. search needs) loop-again returns)

@@ -7,14 +7,10 @@ use lib.ListN.{length}
 use Rattle.wire.proofs.is_framed.Statement.{statement}
 use Rattle.wire.proofs.is_framed.Tie as tie
 
-u16-at-requires : tie.Need-u16-at-requires
-u16-at-requires c κs = search needs
-
-cast-result : tie.Need-cast-result
-cast-result c = search needs
-
 returns : tie.Need-returns
 returns c = let n = length (c .before .before .args .s .now) in λ i. leb 4 n && eqb (c .u16-at .ensures i) n
 
 pub is-framed-spec : {M : Type 1} → statement M
-is-framed-spec = tie.close (tie.spec u16-at-requires cast-result returns)
+is-framed-spec = tie.close
+    (tie.spec
+    (λ c κs. search needs) (λ c. search needs) returns)

@@ -10,26 +10,14 @@ use Rattle.wire.proofs.place_at.Tie as tie
 returns : tie.Need-returns
 returns c = sym (at-end _ _ (c .if1 .taken))
 
-sub-left : tie.Need-sub-left
-sub-left c = search needs
-
 returns-2 : tie.Need-returns-2
 returns-2 c = sym (at-short _ _ (c .before .if1 .left) (c .if2 .taken))
-
-u16-at-requires : tie.Need-u16-at-requires
-u16-at-requires c κs = search needs
-
-cast-size : tie.Need-cast-size
-cast-size c = search needs
 
 returns-3 : tie.Need-returns-3
 returns-3 c = sym (at-small _ _ (c .before .before .before .if1 .left) (c .before .before .if2 .left) _ (c .before .u16-at .ensures) (omega arith))
 
 returns-4 : tie.Need-returns-4
 returns-4 c = sym (at-long _ _ (c .before .before .before .before .if1 .left) (c .before .before .before .if2 .left) _ (c .before .before .u16-at .ensures) (omega arith) (omega arith))
-
-add-t8 : tie.Need-add-t8
-add-t8 c = search needs
 
 returns-5 : tie.Need-returns-5
 returns-5 c = sym (at-record _ _ (c .before .before .before .before .if1 .left) (c .before .before .before .if2 .left) _ (c .before .before .u16-at .ensures) (omega arith) (omega arith))
@@ -38,12 +26,4 @@ pub place-at-spec : {M : Type 1} → statement M
 place-at-spec =
     tie.close
     (tie.spec
-    returns
-    sub-left
-    returns-2
-    u16-at-requires
-    cast-size
-    returns-3
-    returns-4
-    add-t8
-    returns-5)
+    returns (λ c. search needs) returns-2 (λ c κs. search needs) (λ c. search needs) returns-3 returns-4 (λ c. search needs) returns-5)

@@ -8,18 +8,6 @@ use Rattle.wire.proofs.u16_at.Tie as tie
 returns : tie.Need-returns
 returns c = le16-past (c .before .before .args .s .now) _ (c .if1 .taken)
 
-shared-slice-read-join2 : tie.Need-shared-slice-read-join2
-shared-slice-read-join2 c = search needs
-
-add-byte-at : tie.Need-add-byte-at
-add-byte-at c = search needs
-
-byte-at-requires : tie.Need-byte-at-requires
-byte-at-requires c κs = search needs
-
-join2-requires : tie.Need-join2-requires
-join2-requires c κs = search needs
-
 returns-2 : tie.Need-returns-2
 returns-2 c = search needs
 
@@ -27,9 +15,4 @@ pub u16-at-spec : {M : Type 1} → statement M
 u16-at-spec =
     tie.close
     (tie.spec
-    returns
-    shared-slice-read-join2
-    add-byte-at
-    byte-at-requires
-    join2-requires
-    returns-2)
+    returns (λ c. search needs) (λ c. search needs) (λ c κs. search needs) (λ c κs. search needs) returns-2)

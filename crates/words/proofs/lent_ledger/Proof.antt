@@ -9,19 +9,10 @@ use borrow.Author.Needs.{needs}
 use Rattle.words.proofs.lent_ledger.Statement.{statement}
 use Rattle.words.proofs.lent_ledger.Tie as tie
 
-no-ledger-requires : tie.Need-no-ledger-requires
-no-ledger-requires c κs = search needs
-
 returns : tie.Need-returns
 returns c =
     let a = c .before .before .before .args in
     c .no-ledger .ensures ∙ sym (lent-other (a .header) (a .words .now) (c .before .if1 .taken))
-
-words-fit-requires : tie.Need-words-fit-requires
-words-fit-requires c κs = search needs
-
-no-ledger-requires-2 : tie.Need-no-ledger-requires-2
-no-ledger-requires-2 c κs = search needs
 
 returns-2 : tie.Need-returns-2
 returns-2 c =
@@ -44,10 +35,4 @@ pub lent-ledger-spec : {M : Type 1} → statement M
 lent-ledger-spec =
     tie.close
     (tie.spec
-    no-ledger-requires
-    returns
-    words-fit-requires
-    no-ledger-requires-2
-    returns-2
-    ledger-in-requires
-    returns-3)
+    (λ c κs. search needs) returns (λ c κs. search needs) (λ c κs. search needs) returns-2 ledger-in-requires returns-3)

@@ -9,9 +9,6 @@ use borrow.Author.Needs.{needs}
 use Rattle.words.proofs.put.Statement.{statement}
 use Rattle.words.proofs.put.Tie as tie
 
-answer-by-requires : tie.Need-answer-by-requires
-answer-by-requires c κs = search needs
-
 returns : tie.Need-returns
 returns c =
     let a = c .before .before .before .args in
@@ -19,15 +16,6 @@ returns c =
       e,
       sym (ap (λ t. cond t (a .pair .first ∷ a .pair .second ∷ []) (a .out .now)) (ne-eqb (headed (a .header) (a .pair .answer)) 0 (λ z. c .if1 .taken (e ∙ z)))),
     )
-
-slice-write-out : tie.Need-slice-write-out
-slice-write-out c = search needs
-
-slice-write-out-2 : tie.Need-slice-write-out-2
-slice-write-out-2 c = search needs
-
-same-length : tie.Need-same-length
-same-length c = search needs
 
 returns-2 : tie.Need-returns-2
 returns-2 c =
@@ -41,4 +29,5 @@ returns-2 c =
 pub put-spec : {M : Type 1} → statement M
 put-spec =
     tie.close
-    (tie.spec answer-by-requires returns slice-write-out slice-write-out-2 same-length returns-2)
+    (tie.spec
+    (λ c κs. search needs) returns (λ c. search needs) (λ c. search needs) (λ c. search needs) returns-2)

@@ -7,21 +7,12 @@ use borrow.Author.Needs.{needs}
 use Rattle.words.proofs.settle.Statement.{statement}
 use Rattle.words.proofs.settle.Tie as tie
 
-answer-by-requires : tie.Need-answer-by-requires
-answer-by-requires c κs = search needs
-
 returns : tie.Need-returns
 unfolding settled
 returns c =
     let a = c .before .before .before .args in
     let e = c .before .answer-by .ensures in
     (e, sym (refused-is (headed (a .header) (a .taken .answer)) (written (a .words .now) (a .taken .ledger)) (a .words .now) (λ z. c .if1 .taken (e ∙ z))))
-
-write-requires : tie.Need-write-requires
-write-requires c κs = search needs
-
-same-length : tie.Need-same-length
-same-length c = search needs
 
 returns-2 : tie.Need-returns-2
 unfolding settled
@@ -34,4 +25,6 @@ returns-2 c =
     )
 
 pub settle-spec : {M : Type 1} → statement M
-settle-spec = tie.close (tie.spec answer-by-requires returns write-requires same-length returns-2)
+settle-spec = tie.close
+    (tie.spec
+    (λ c κs. search needs) returns (λ c κs. search needs) (λ c. search needs) returns-2)

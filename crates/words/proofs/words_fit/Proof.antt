@@ -10,27 +10,6 @@ returns : tie.Need-returns
 unfolding wordsFit
 returns c = rw (ne-eqb (length (c .before .args .words .now)) 49 (c .if1 .taken))
 
-shared-slice-read-result : tie.Need-shared-slice-read-result
-shared-slice-read-result c = search needs
-
-shared-slice-read-result-2 : tie.Need-shared-slice-read-result-2
-shared-slice-read-result-2 c = search needs
-
-shared-slice-read-result-3 : tie.Need-shared-slice-read-result-3
-shared-slice-read-result-3 c = search needs
-
-shared-slice-read-result-4 : tie.Need-shared-slice-read-result-4
-shared-slice-read-result-4 c = search needs
-
-shared-slice-read-result-5 : tie.Need-shared-slice-read-result-5
-shared-slice-read-result-5 c = search needs
-
-shared-slice-read-result-6 : tie.Need-shared-slice-read-result-6
-shared-slice-read-result-6 c = search needs
-
-shared-slice-read-result-7 : tie.Need-shared-slice-read-result-7
-shared-slice-read-result-7 c = search needs
-
 returns-2 : tie.Need-returns-2
 unfolding wordsFit
 returns-2 c =
@@ -41,12 +20,5 @@ pub words-fit-spec : {M : Type 1} → statement M
 words-fit-spec =
     tie.close
     (tie.spec
-    returns
-    shared-slice-read-result
-    shared-slice-read-result-2
-    shared-slice-read-result-3
-    shared-slice-read-result-4
-    shared-slice-read-result-5
-    shared-slice-read-result-6
-    shared-slice-read-result-7
-    returns-2)
+    returns (λ c. search needs) (λ c. search needs) (λ c. search needs) (λ c. search needs) (λ c. search needs) (λ c. search needs)
+    (λ c. search needs) returns-2)

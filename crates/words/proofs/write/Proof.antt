@@ -1,11 +1,11 @@
--- Seven stores, then the cells; where there are not 49 words nothing is done. Assumes nothing.
+-- Seven stores, then the cells; where there are not as many words nothing is done. Assumes nothing.
 use mathlib.Core.Path.{sym, ap, _∙_}
 use mathlib.Core.List.{[], _∷_, _++_}
 use mathlib.Core.Bool.{cond}
 use lib.ListN.{length, length-set}
 use native.Mathlib.Omega.{arith}
 use borrow.Author.Tests.{eq-eqb, ne-eqb}
-use Rattle.words.specs.Words.{wordsOf, wordsBefore, cellWords}
+use Rattle.words.specs.Words.{ledgerWords, wordsOf, wordsBefore, cellWords, cellsIn}
 use Rattle.words.specs.Inside.{written}
 use Rattle.words.proofs.WordLaws.{seven-set}
 use borrow.Author.Needs.{needs}
@@ -16,61 +16,22 @@ returns : tie.Need-returns
 unfolding written
 returns c =
     let a = c .before .before .args in
-    sym (ap (λ t. cond t (wordsOf (a .ledger)) (a .words .now)) (ne-eqb (length (a .words .now)) 49 (c .if1 .taken)))
-
-flag-requires : tie.Need-flag-requires
-flag-requires c κs = search needs
-
-slice-write-words : tie.Need-slice-write-words
-slice-write-words c = search needs
-
-cast-words : tie.Need-cast-words
-cast-words c = search needs
-
-slice-write-words-2 : tie.Need-slice-write-words-2
-slice-write-words-2 c = search needs
-
-array-read-wide : tie.Need-array-read-wide
-array-read-wide c = search needs
-
-wide-requires : tie.Need-wide-requires
-wide-requires c κs = search needs
-
-slice-write-words-3 : tie.Need-slice-write-words-3
-slice-write-words-3 c = search needs
-
-array-read-wide-2 : tie.Need-array-read-wide-2
-array-read-wide-2 c = search needs
-
-wide-requires-2 : tie.Need-wide-requires-2
-wide-requires-2 c κs = search needs
+    sym (ap (λ t. cond t (wordsOf (a .ledger)) (a .words .now)) (ne-eqb (length (a .words .now)) ledgerWords (c .if1 .taken)))
 
 slice-write-words-4 : tie.Need-slice-write-words-4
 slice-write-words-4 c = simp length-set (omega (arith, c .before .before .before .before .before .before .before .if1 .left))
 
-array-read-wide-3 : tie.Need-array-read-wide-3
-array-read-wide-3 c = search needs
-
-wide-requires-3 : tie.Need-wide-requires-3
-wide-requires-3 c κs = search needs
-
 slice-write-words-5 : tie.Need-slice-write-words-5
 slice-write-words-5 c = simp length-set (omega (arith, c .before .before .before .before .before .before .before .before .if1 .left))
-
-cast-words-2 : tie.Need-cast-words-2
-cast-words-2 c = search needs
 
 slice-write-words-6 : tie.Need-slice-write-words-6
 slice-write-words-6 c = simp length-set (omega (arith, c .before .before .before .before .before .before .before .before .before .if1 .left))
 
-cast-words-3 : tie.Need-cast-words-3
-cast-words-3 c = search needs
-
 slice-write-words-7 : tie.Need-slice-write-words-7
 slice-write-words-7 c = simp length-set (omega (arith, c .before .before .before .before .before .before .before .before .before .before .if1 .left))
 
-write-cells-requires : tie.Need-write-cells-requires
-write-cells-requires c κs = simp length-set (c .before .before .before .before .before .before .before .before .before .before .before .if1 .left)
+write-rows-requires : tie.Need-write-rows-requires
+write-rows-requires c κs = simp length-set (c .before .before .before .before .before .before .before .before .before .before .before .if1 .left)
 
 same-length : tie.Need-same-length
 same-length c = c .before .words .given ∙ simp length-set
@@ -81,39 +42,22 @@ returns-2 c =
     let a = c .before .before .before .before .before .before .before .before .before .before .before .before .before .before .before .before .args in
     let ws = a .words .now in
     let l = a .ledger in
-    let rest = cellWords (l .cells) in
+    let rest = cellWords (cellsIn (l .rows)) in
     let size = c .before .before .before .before .before .before .before .before .before .before .before .before .before .before .if1 .left in
     let there = c .before .before .before .before .before .before .before .before .before .before .flag in
     let nn = c .before .before .before .before .before .before .before .before .wide in
     let vn = c .before .before .before .before .before .before .before .wide2 in
     let vvn = c .before .before .before .before .before .before .wide3 in
-    c .before .before .write-cells .ensures ∙
+    c .before .before .write-rows .ensures ∙
     ap (λ us. us ++ rest) (seven-set ws (there .result) (l .sheet .year) (nn .result) (vn .result) (vvn .result) (l .events) (l .short) size) ∙
     (λ i. (there .ensures i ∷ l .sheet .year ∷ nn .ensures i ∷ vn .ensures i ∷ vvn .ensures i ∷ l .events ∷ l .short ∷ []) ++ rest) ∙
-    sym (ap (λ t. cond t (wordsBefore l ++ rest) ws) (eq-eqb (length ws) 49 size))
+    sym (ap (λ t. cond t (wordsBefore l ++ rest) ws) (eq-eqb (length ws) ledgerWords size))
 
 pub write-spec : {M : Type 1} → statement M
 write-spec =
     tie.close
     (tie.spec
-    returns
-    flag-requires
-    slice-write-words
-    cast-words
-    slice-write-words-2
-    array-read-wide
-    wide-requires
-    slice-write-words-3
-    array-read-wide-2
-    wide-requires-2
-    slice-write-words-4
-    array-read-wide-3
-    wide-requires-3
-    slice-write-words-5
-    cast-words-2
-    slice-write-words-6
-    cast-words-3
-    slice-write-words-7
-    write-cells-requires
-    same-length
+    returns (λ c κs. search needs) (λ c. search needs) (λ c. search needs) (λ c. search needs) (λ c. search needs) (λ c κs. search needs)
+    (λ c. search needs) (λ c. search needs) (λ c κs. search needs) slice-write-words-4 (λ c. search needs) (λ c κs. search needs)
+    slice-write-words-5 (λ c. search needs) slice-write-words-6 (λ c. search needs) slice-write-words-7 write-rows-requires same-length
     returns-2)

@@ -20,17 +20,11 @@ ran c =
     let a = c .before .before .before .before .before .before .args in
     c .take-records .ensures ∙ ap (λ (t : Table). runOf t (a .file .now)) (begun-marked (a .table) _ (c .before .before .before .before .begin-file .ensures) (c .before .if1 .left) .1)
 
-begin-file-requires : tie.Need-begin-file-requires
-begin-file-requires c κs = search needs
-
 returns : tie.Need-returns
 returns c =
     let a = c .before .before .before .before .before .args in
     let h = begun-refused (a .table) _ (c .before .before .before .begin-file .ensures) (c .if1 .taken) in
     (λ i. record { answer = 1; table = h .1 i; refused = 0; broken = false }) ∙ sym (file-unread (a .table) (a .file .now) (h .0))
-
-take-records-requires : tie.Need-take-records-requires
-take-records-requires c κs = search needs
 
 add-t8 : tie.Need-add-t8
 add-t8 c =
@@ -50,4 +44,5 @@ returns-3 c =
 pub take-file-spec : {M : Type 1} → statement M
 take-file-spec =
     tie.close
-    (tie.spec begin-file-requires returns take-records-requires add-t8 returns-2 returns-3)
+    (tie.spec
+    (λ c κs. search needs) returns (λ c κs. search needs) add-t8 returns-2 returns-3)

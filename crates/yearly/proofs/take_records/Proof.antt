@@ -5,7 +5,10 @@ use lib.ListN.{length}
 use native.Mathlib.Omega.{arith}
 use borrow.Author.Needs.{needs}
 use Rattle.table.specs.Take.{takenOf}
-use Rattle.yearly.proofs.RunLaws.{Going, going-begins, going-on, going-nearer, going-room, going-ends, one-at-most}
+use Rattle.records.proofs.TakeLaws.{one-at-most}
+use Rattle.records.proofs.RunLaws.{going-begins, going-nearer, going-room}
+use Rattle.yearly.specs.Yearly.{starting, takeRecord}
+use Rattle.yearly.proofs.RunLaws.{Going, refusedIn, going-on, going-ends}
 use Rattle.yearly.proofs.take_records.Statement.{statement}
 use Rattle.yearly.proofs.take_records.Tie as tie
 
@@ -15,35 +18,21 @@ Inv-loop bytes t₀ refused₀ stand₀ t refused stand = Going t₀ bytes t ref
 abbrev μ-loop : tie.MeasureT-loop
 μ-loop bytes t₀ refused₀ stand₀ t refused stand = length bytes - stand .start
 
-stand-at-requires : tie.Need-stand-at-requires Inv-loop μ-loop
-stand-at-requires c κs = search needs
-
 loop-holds : tie.Need-loop-holds Inv-loop μ-loop
-loop-holds c = let a = c .before .before .args in going-begins (a .table) (a .bytes .now) (c .stand-at .result) (c .stand-at .ensures)
-
-part-requires : tie.Need-part-requires Inv-loop μ-loop
-part-requires c κs = search needs
-
-take-requires : tie.Need-take-requires Inv-loop μ-loop
-take-requires c κs = search needs
-
-one-if-refused-requires : tie.Need-one-if-refused-requires Inv-loop μ-loop
-one-if-refused-requires c κs = search needs
+loop-holds c = let a = c .before .before .args in going-begins takeRecord refusedIn (starting (a .table)) (a .bytes .now) (c .stand-at .result) (c .stand-at .ensures)
 
 add-refused : tie.Need-add-refused Inv-loop μ-loop
 add-refused c =
     let g = c .before .before .before .before .before .loop in
     let a = c .before .before .before .before .before .before .before .before .args in
-    omega (arith, one-at-most _ (c .before .take .result .answer) (c .one-if-refused .ensures), going-room (a .table) (a .bytes .now) (g .t) (g .refused) (g .stand) (g .inv) (c .before .before .before .if1 .taken), c .before .before .before .before .before .before .before .before .good .1 .0)
-
-stand-at-requires-2 : tie.Need-stand-at-requires-2 Inv-loop μ-loop
-stand-at-requires-2 c κs = search needs
+    let room = going-room takeRecord refusedIn (starting (a .table)) (a .bytes .now) _ (g .stand) (g .inv) (c .before .before .before .if1 .taken) in
+    omega (arith, one-at-most (c .before .take .result .answer), c .one-if-refused .ensures, room, c .before .before .before .before .before .before .before .before .good .1 .0)
 
 loop-less : tie.Need-loop-less Inv-loop μ-loop
 loop-less c =
     let g = c .before .before .before .before .before .before .before .loop in
     let a = c .before .before .before .before .before .before .before .before .before .before .args in
-    going-nearer (a .table) (a .bytes .now) (g .t) (g .refused) (g .stand) (g .inv) (c .stand-at2 .result) (c .stand-at2 .ensures) (c .before .before .before .before .before .if1 .taken)
+    going-nearer takeRecord refusedIn (starting (a .table)) (a .bytes .now) _ (g .stand) (g .inv) (c .stand-at2 .result) (c .stand-at2 .ensures) (c .before .before .before .before .before .if1 .taken)
 
 loop-again : tie.Need-loop-again Inv-loop μ-loop
 loop-again c =
@@ -63,15 +52,5 @@ pub take-records-spec : {M : Type 1} → statement M
 take-records-spec =
     tie.close
     (tie.spec
-    Inv-loop
-    μ-loop
-    stand-at-requires
-    loop-holds
-    part-requires
-    take-requires
-    one-if-refused-requires
-    add-refused
-    stand-at-requires-2
-    loop-less
-    loop-again
-    returns)
+    Inv-loop μ-loop (λ c κs. search needs) loop-holds (λ c κs. search needs) (λ c κs. search needs) (λ c κs. search needs) add-refused
+    (λ c κs. search needs) loop-less loop-again returns)

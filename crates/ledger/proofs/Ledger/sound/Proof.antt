@@ -6,17 +6,11 @@ use borrow.Author.Needs.{needs}
 use Rattle.ledger.proofs.Ledger.sound.Statement.{statement}
 use Rattle.ledger.proofs.Ledger.sound.Tie as tie
 
-sheet-sound-requires : tie.Need-sheet-sound-requires
-sheet-sound-requires c κs = search needs
-
-cells-within-requires : tie.Need-cells-within-requires
-cells-within-requires c κs = search needs
-
 returns : tie.Need-returns
 unfolding soundLedger
 returns c =
     let l = c .before .before .before .before .before .before .args .self in
-    λ i. c .before .before .before .sheet-sound .ensures i && leb (l .events) 65535 && leb (l .short) (l .events) && c .cells-within .ensures i
+    λ i. c .before .before .before .sheet-sound .ensures i && leb (l .events) 65535 && leb (l .short) (l .events) && c .rows-within .ensures i
 
 pub sound-spec : {M : Type 1} → statement M
-sound-spec = tie.close (tie.spec sheet-sound-requires cells-within-requires returns)
+sound-spec = tie.close (tie.spec (λ c κs. search needs) (λ c κs. search needs) returns)

@@ -10,7 +10,7 @@ use Rattle.marks.specs.Marks.{markedWith}
 use Rattle.verdict.specs.declared.Verdict.{Verdict}
 use Rattle.record.proofs.JudgeLaws.{verdict-answer}
 use Rattle.ledger.specs.Ledger.{added}
-use Rattle.ledger.specs.Sound.{Fits}
+use Rattle.ledger.specs.Inside.{Fits}
 use Rattle.ledger.specs.Take.{unsound}
 use Rattle.ledger.proofs.TakeLaws.{answer-1, answer-judged, take-judged, refused-hands-back}
 use Rattle.ledger.proofs.SoundLaws.{verdict-fits}
@@ -25,9 +25,6 @@ tested c = λ i. not (eqb (length (c .before .before .before .args .map .now)) 8
 fine : (c : tie.Else1) → unsound (c .before .before .before .before .args .self) (c .before .before .before .before .args .map .now) ≡ false
 fine c = sym (tested (c .before)) ∙ c .if1 .left
 
-sound-requires : tie.Need-sound-requires
-sound-requires c κs = search needs
-
 returns : tie.Need-returns
 returns c =
     let a = c .before .before .before .before .args in
@@ -36,20 +33,11 @@ returns c =
     let h = refused-hands-back (a .self) (a .map .now) s (λ z. eqb-false 1 0 refl (sym e ∙ z)) in
     ((λ i. record { answer = sym e i; ledger = sym (h .0) i }), sym (h .1))
 
-judge-requires : tie.Need-judge-requires
-judge-requires c κs = search needs
-
-mark-requires : tie.Need-mark-requires
-mark-requires c κs = search needs
-
 add-requires : tie.Need-add-requires
 add-requires c κs =
     let a = c .before .before .before .before .before .before .before .before .before .before .before .args in
     let sound = not-false _ (or-right (not (eqb (length (a .map .now)) 8192)) _ (fine (c .before .before .before .before .before .before .before))) in
     subst⁻¹ (Fits (a .self)) (c .before .before .before .before .judge .ensures) (verdict-fits (a .self) (a .map .now) (a .bytes .now) sound)
-
-same-length : tie.Need-same-length
-same-length c = search needs
 
 returns-2 : tie.Need-returns-2
 returns-2 c =
@@ -71,10 +59,4 @@ pub take-spec : {M : Type 1} → statement M
 take-spec =
     tie.close
     (tie.spec
-    sound-requires
-    returns
-    judge-requires
-    mark-requires
-    add-requires
-    same-length
-    returns-2)
+    (λ c κs. search needs) returns (λ c κs. search needs) (λ c κs. search needs) add-requires (λ c. search needs) returns-2)

@@ -5,13 +5,12 @@ use borrow.Author.Needs.{needs}
 use Rattle.roll.proofs.Roll.holds.Statement.{statement}
 use Rattle.roll.proofs.Roll.holds.Tie as tie
 
-numbers-differ-requires : tie.Need-numbers-differ-requires
-numbers-differ-requires c κs = search needs
-
 returns : tie.Need-returns
 returns c =
     let a = c .before .before .before .args in
     λ i. eqb (a .slots) 32 && a .self .sound && c .numbers-differ .ensures i
 
 pub holds-spec : {M : Type 1} → statement M
-holds-spec = tie.close (tie.spec numbers-differ-requires returns)
+holds-spec = tie.close
+    (tie.spec
+    (λ c κs. search needs) returns)

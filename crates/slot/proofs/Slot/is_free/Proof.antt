@@ -24,16 +24,10 @@ returns c =
     let s = c .before .before .before .before .before .before .before .before .before .before .args .self in
     sym (ap (λ a. a && noCustomers (s .figures) && noHalves (s .figures)) (not-true (unbegun s) (c .if1 .taken)))
 
-no-customers-requires : tie.Need-no-customers-requires
-no-customers-requires c κs = search needs
-
 returns-2 : tie.Need-returns-2
 returns-2 c =
     let s = c .before .before .before .before .before .before .before .before .before .before .before .before .args .self in
     sym (free-by s (not-false (unbegun s) (c .before .before .if1 .left)) (sym (c .before .no-customers .ensures) ∙ not-true _ (c .if2 .taken)))
-
-no-halves-requires : tie.Need-no-halves-requires
-no-halves-requires c κs = search needs
 
 returns-3 : tie.Need-returns-3
 returns-3 c =
@@ -41,4 +35,6 @@ returns-3 c =
     c .no-halves .ensures ∙ sym (free-by s (not-false (unbegun s) (c .before .before .before .if1 .left)) (sym (c .before .before .no-customers .ensures) ∙ not-false _ (c .before .if2 .left)))
 
 pub is-free-spec : {M : Type 1} → statement M
-is-free-spec = tie.close (tie.spec returns no-customers-requires returns-2 no-halves-requires returns-3)
+is-free-spec = tie.close
+    (tie.spec
+    returns (λ c κs. search needs) returns-2 (λ c κs. search needs) returns-3)

@@ -32,9 +32,6 @@ near s e =
     let k = each-fails (leb 527040 (s .head .t0)) (ltb (s .last) (s .head .t0) ∷ ltb 600000 (s .last) ∷ ltb 64 (s .steps) ∷ []) e in
     (leb-false _ (s .head .t0) (k .0), ltb-false (s .last) (s .head .t0) (k .1 .0), ltb-false _ (s .last) (k .1 .1 .0), ltb-false _ (s .steps) (k .1 .1 .1 .0))
 
-listed-requires : tie.Need-listed-requires
-listed-requires c κs = search needs
-
 returns : tie.Need-returns
 returns c =
     let s = c .before .before .before .before .before .before .args .self in
@@ -50,62 +47,26 @@ sub-minutes c =
     let s = c .before .before .before .before .before .before .before .before .before .before .before .before .before .before .args .self in
     near s (c .before .before .if2 .left) .1
 
-array-copy-out-level-within : tie.Need-array-copy-out-level-within
-array-copy-out-level-within c = search needs
-
-array-copy-out-level-within-2 : tie.Need-array-copy-out-level-within-2
-array-copy-out-level-within-2 c = search needs
-
-level-within-requires : tie.Need-level-within-requires
-level-within-requires c κs = search needs
-
 returns-3 : tie.Need-returns-3
 returns-3 c =
     let s = c .before .before .before .before .before .before .before .before .before .before .before .before .before .before .before .before .before .before .args .self in
     refuted s (within s 0) (sym (c .before .level-within .ensures) ∙ not-true _ (c .if3 .taken)) (λ o. open-level s o 0 (omega arith))
-
-array-copy-out-level-within-3 : tie.Need-array-copy-out-level-within-3
-array-copy-out-level-within-3 c = search needs
-
-array-copy-out-level-within-4 : tie.Need-array-copy-out-level-within-4
-array-copy-out-level-within-4 c = search needs
-
-level-within-requires-2 : tie.Need-level-within-requires-2
-level-within-requires-2 c κs = search needs
 
 returns-4 : tie.Need-returns-4
 returns-4 c =
     let s = c .before .before .before .before .before .before .before .before .before .before .before .before .before .before .before .before .before .before .before .before .before .before .args .self in
     refuted s (within s 1) (sym (c .before .level-within2 .ensures) ∙ not-true _ (c .if4 .taken)) (λ o. open-level s o 1 (omega arith))
 
-array-copy-out-level-within-5 : tie.Need-array-copy-out-level-within-5
-array-copy-out-level-within-5 c = search needs
-
-array-copy-out-level-within-6 : tie.Need-array-copy-out-level-within-6
-array-copy-out-level-within-6 c = search needs
-
-level-within-requires-3 : tie.Need-level-within-requires-3
-level-within-requires-3 c κs = search needs
-
 returns-5 : tie.Need-returns-5
 returns-5 c =
     let s = c .before .before .before .before .before .before .before .before .before .before .before .before .before .before .before .before .before .before .before .before .before .before .before .before .before .before .args .self in
     refuted s (within s 2) (sym (c .before .level-within3 .ensures) ∙ not-true _ (c .if5 .taken)) (λ o. open-level s o 2 (omega arith))
-
-level-of-requires : tie.Need-level-of-requires
-level-of-requires c κs = search needs
-
-figures-above-requires : tie.Need-figures-above-requires
-figures-above-requires c κs = search needs
 
 returns-6 : tie.Need-returns-6
 returns-6 c =
     let s = c .before .before .before .before .before .before .before .before .before .before .before .before .before .before .before .before .before .before .before .before .before .before .before .before .before .before .before .before .before .args .self in
     let above = c .before .figures-above .ensures ∙ (λ i. figuresAbove (c .before .before .level-of .ensures i) (s .figures)) in
     not-open s (λ o. true≢false (sym (c .if6 .taken) ∙ above ∙ open-none-above s o))
-
-no-customers-requires : tie.Need-no-customers-requires
-no-customers-requires c κs = search needs
 
 returns-7 : tie.Need-returns-7
 returns-7 c =
@@ -128,24 +89,6 @@ pub open-sound-spec : {M : Type 1} → statement M
 open-sound-spec =
     tie.close
     (tie.spec
-    listed-requires
-    returns
-    returns-2
-    sub-minutes
-    array-copy-out-level-within
-    array-copy-out-level-within-2
-    level-within-requires
-    returns-3
-    array-copy-out-level-within-3
-    array-copy-out-level-within-4
-    level-within-requires-2
-    returns-4
-    array-copy-out-level-within-5
-    array-copy-out-level-within-6
-    level-within-requires-3
-    returns-5
-    level-of-requires
-    figures-above-requires
-    returns-6
-    no-customers-requires
-    returns-7)
+    (λ c κs. search needs) returns returns-2 sub-minutes (λ c. search needs) (λ c. search needs) (λ c κs. search needs) returns-3
+    (λ c. search needs) (λ c. search needs) (λ c κs. search needs) returns-4 (λ c. search needs) (λ c. search needs) (λ c κs. search needs)
+    returns-5 (λ c κs. search needs) (λ c κs. search needs) returns-6 (λ c κs. search needs) returns-7)

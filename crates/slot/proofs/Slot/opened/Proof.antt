@@ -3,11 +3,10 @@ use borrow.Author.Needs.{needs}
 use Rattle.slot.proofs.Slot.opened.Statement.{statement}
 use Rattle.slot.proofs.Slot.opened.Tie as tie
 
-none-requires : tie.Need-none-requires
-none-requires c κs = search needs
-
 returns : tie.Need-returns
 returns c = λ i. record { head = c .before .args .head; last = c .before .args .head .t0; steps = 0; figures = c .none .ensures i }
 
 pub opened-spec : {M : Type 1} → statement M
-opened-spec = tie.close (tie.spec none-requires returns)
+opened-spec = tie.close
+    (tie.spec
+    (λ c κs. search needs) returns)

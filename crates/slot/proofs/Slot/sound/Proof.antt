@@ -6,17 +6,11 @@ use borrow.Author.Needs.{needs}
 use Rattle.slot.proofs.Slot.sound.Statement.{statement}
 use Rattle.slot.proofs.Slot.sound.Tie as tie
 
-is-free-requires : tie.Need-is-free-requires
-is-free-requires c κs = search needs
-
 returns : tie.Need-returns
 unfolding slotSound
 returns c =
     let s = c .before .before .args .self in
     sym (ap (λ t. t || openSound s) (sym (c .before .is-free .ensures) ∙ c .if1 .taken))
-
-open-sound-requires : tie.Need-open-sound-requires
-open-sound-requires c κs = search needs
 
 returns-2 : tie.Need-returns-2
 unfolding slotSound
@@ -25,4 +19,6 @@ returns-2 c =
     c .open-sound .ensures ∙ sym (ap (λ t. t || openSound s) (sym (c .before .before .is-free .ensures) ∙ c .before .if1 .left))
 
 pub sound-spec : {M : Type 1} → statement M
-sound-spec = tie.close (tie.spec is-free-requires returns open-sound-requires returns-2)
+sound-spec = tie.close
+    (tie.spec
+    (λ c κs. search needs) returns (λ c κs. search needs) returns-2)

@@ -1,21 +1,24 @@
--- The fold is the callee's; the times are in order, so their difference is no less than 0. Assumes nothing.
+-- The outage's course goes on by one step, as a stepped record's does. Assumes nothing.
 use Prim.Native.Nat.{_+_}
-use native.Mathlib.Omega.{arith}
+use mathlib.Core.Path.{_∙_, ap, subst⁻¹}
+use Rattle.annex.specs.declared.Course.{Course}
+use Rattle.annex.specs.Stepped.{coursed}
+use Rattle.annex.specs.Inside.{Ready}
 use borrow.Author.Needs.{needs}
 use Rattle.slot.proofs.Slot.stepped.Statement.{statement}
 use Rattle.slot.proofs.Slot.stepped.Tie as tie
 
-add-t6 : tie.Need-add-t6
-add-t6 c = omega (arith, c .before .before .before .before .pre .1)
-
-sub-with-step : tie.Need-sub-with-step
-sub-with-step c = c .before .before .before .before .before .before .pre .2
-
-with-step-requires : tie.Need-with-step-requires
-with-step-requires c κs = (c .before .before .before .before .before .before .pre .0, omega (arith, c .before .before .before .before .before .before .pre .3))
+with-requires : tie.Need-with-requires
+with-requires c κs =
+    let start = c .before .before in
+    subst⁻¹ (λ (x : Course). Ready x (start .args .step)) (c .course .ensures) (start .pre .0)
 
 returns : tie.Need-returns
-returns c = λ i. record { head = c .before .before .before .before .before .before .before .args .self .head; last = c .before .before .before .before .before .before .before .args .step .time; steps = c .before .before .before .before .before .before .before .args .self .steps + 1; figures = c .with-step .ensures i }
+returns c =
+    let with = c .before .before in
+    let a = with .before .before .before .args in
+    let on = with .with .ensures ∙ ap (λ (x : Course). coursed x (a .step)) (with .before .course .ensures) in
+    λ i. record { head = a .self .head; last = on i .last; steps = a .self .steps + 1; figures = on i .figures }
 
 pub stepped-spec : {M : Type 1} → statement M
-stepped-spec = tie.close (tie.spec add-t6 sub-with-step with-step-requires returns)
+stepped-spec = tie.close (tie.spec (λ c κs. search needs) with-requires (λ c. search needs) returns)

@@ -6,9 +6,6 @@ use borrow.Author.Needs.{needs}
 use Rattle.table.proofs.Table.begin_file.Statement.{statement}
 use Rattle.table.proofs.Table.begin_file.Tie as tie
 
-sound-requires : tie.Need-sound-requires
-sound-requires c κs = search needs
-
 returns : tie.Need-returns
 returns c = sym (file-refused (c .before .before .args .self) (sym (c .before .sound .ensures) ∙ not-true _ (c .if1 .taken)))
 
@@ -16,4 +13,6 @@ returns-2 : tie.Need-returns-2
 returns-2 c = sym (file-begins (c .before .before .args .self) (sym (c .before .sound .ensures) ∙ not-false _ (c .if1 .left)))
 
 pub begin-file-spec : {M : Type 1} → statement M
-begin-file-spec = tie.close (tie.spec sound-requires returns returns-2)
+begin-file-spec = tie.close
+    (tie.spec
+    (λ c κs. search needs) returns returns-2)

@@ -5,12 +5,11 @@ use borrow.Author.Needs.{needs}
 use Rattle.table.proofs.Table.sound.Statement.{statement}
 use Rattle.table.proofs.Table.sound.Tie as tie
 
-rows-within-requires : tie.Need-rows-within-requires
-rows-within-requires c κs = search needs
-
 returns : tie.Need-returns
 unfolding soundTable
 returns c = λ i. periodWithin (c .before .before .before .before .args .self .period) && c .rows-within .ensures i
 
 pub sound-spec : {M : Type 1} → statement M
-sound-spec = tie.close (tie.spec rows-within-requires returns)
+sound-spec = tie.close
+    (tie.spec
+    (λ c κs. search needs) returns)

@@ -5,17 +5,11 @@ use borrow.Author.Needs.{needs}
 use Rattle.table.proofs.Table.take.Statement.{statement}
 use Rattle.table.proofs.Table.take.Tie as tie
 
-answer-to-requires : tie.Need-answer-to-requires
-answer-to-requires c κs = search needs
-
 returns : tie.Need-returns
 returns c =
     let a = c .before .before .before .args in
     let e = c .before .answer-to .ensures in
     λ i. record { answer = e i; table = sym (refused-hands-back (a .self) (a .bytes .now) (λ z. c .if1 .taken (e ∙ z))) i }
-
-with-record-requires : tie.Need-with-record-requires
-with-record-requires c κs = search needs
 
 returns-2 : tie.Need-returns-2
 returns-2 c =
@@ -24,4 +18,6 @@ returns-2 c =
     λ i. record { answer = sym e i; table = (c .with-record .ensures ∙ sym (accepted-after (a .self) (a .bytes .now) e)) i }
 
 pub take-spec : {M : Type 1} → statement M
-take-spec = tie.close (tie.spec answer-to-requires returns with-record-requires returns-2)
+take-spec = tie.close
+    (tie.spec
+    (λ c κs. search needs) returns (λ c κs. search needs) returns-2)

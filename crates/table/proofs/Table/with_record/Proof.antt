@@ -9,9 +9,8 @@ use Rattle.elements.specs.Elements.{rowOf}
 use Rattle.table.specs.Table.{rowOr}
 use Rattle.filing.specs.Fields.{codeIn}
 use Rattle.table.specs.Rules.{rowNamed}
-use Rattle.row.specs.Row.{withOutage, withStock}
+use Rattle.row.specs.Row.{withOutage, withStock, RowSound}
 use Rattle.table.specs.Take.{withRow, acceptedAt}
-use Rattle.row.proofs.RowLaws.{RowSound}
 use Rattle.table.proofs.BoundLaws.{sound-row}
 use Rattle.table.proofs.AnswerLaws.{accepted-kind}
 use Rattle.table.proofs.ExactlyThen.{exactly-outage, exactly-stock}
@@ -42,28 +41,10 @@ stock-kind c =
     go (inr (inl k)) no1 no4 = absurd (no4 k)
     go (inr (inr k)) no1 no4 = k
 
-kind-of-requires : tie.Need-kind-of-requires
-kind-of-requires c κs = search needs
-
 returns : tie.Need-returns
 returns c =
     let a = c .before .before .before .args in
     ap (λ kind. acceptedAt kind (a .self) (a .bytes .now)) (sym (c .if1 .taken) ∙ c .before .kind-of .ensures)
-
-u16-at-requires : tie.Need-u16-at-requires
-u16-at-requires c κs = search needs
-
-row-of-requires : tie.Need-row-of-requires
-row-of-requires c κs = search needs
-
-row-at-requires : tie.Need-row-at-requires
-row-at-requires c κs = search needs
-
-u32-at-requires : tie.Need-u32-at-requires
-u32-at-requires c κs = search needs
-
-u32-at-requires-2 : tie.Need-u32-at-requires-2
-u32-at-requires-2 c κs = search needs
 
 sub-minutes : tie.Need-sub-minutes
 sub-minutes c =
@@ -80,9 +61,6 @@ with-outage-requires c κs =
     let bounds = subst⁻¹ RowSound (row-named (t .before)) (sound-row (b .args .self) sound _) in
     (bounds .outages, omega (arith, bounds .outages, bounds .minutes))
 
-with-row-requires : tie.Need-with-row-requires
-with-row-requires c κs = search needs
-
 returns-2 : tie.Need-returns-2
 returns-2 c =
     let u = c .before .before in
@@ -93,21 +71,12 @@ returns-2 c =
     (λ i. withRow (a .self) (rowOf (codeIn (a .bytes .now))) (withOutage (row-named (t .before) i) (u .before .u32-at .ensures i - u .u32-at2 .ensures i))) ∙
     ap (λ kind. acceptedAt kind (a .self) (a .bytes .now)) (sym (outage-kind t))
 
-byte-at-requires : tie.Need-byte-at-requires
-byte-at-requires c κs = search needs
-
-u32-at-requires-3 : tie.Need-u32-at-requires-3
-u32-at-requires-3 c κs = search needs
-
 with-stock-requires : tie.Need-with-stock-requires
 with-stock-requires c κs =
     let e = c .before .before in
     let b = e .before .before .before .before .before .before .before .before in
     let unit = exactly-stock (b .args .self) (b .args .bytes .now) (stock-kind e) .0 (b .pre) .unit in
     omega (arith, unit, c .before .byte-at .ensures)
-
-with-row-requires-2 : tie.Need-with-row-requires-2
-with-row-requires-2 c κs = search needs
 
 returns-3 : tie.Need-returns-3
 returns-3 c =
@@ -123,19 +92,6 @@ pub with-record-spec : {M : Type 1} → statement M
 with-record-spec =
     tie.close
     (tie.spec
-    kind-of-requires
-    returns
-    u16-at-requires
-    row-of-requires
-    row-at-requires
-    u32-at-requires
-    u32-at-requires-2
-    sub-minutes
-    with-outage-requires
-    with-row-requires
-    returns-2
-    byte-at-requires
-    u32-at-requires-3
-    with-stock-requires
-    with-row-requires-2
-    returns-3)
+    (λ c κs. search needs) returns (λ c κs. search needs) (λ c κs. search needs) (λ c κs. search needs) (λ c κs. search needs)
+    (λ c κs. search needs) sub-minutes with-outage-requires (λ c κs. search needs) returns-2 (λ c κs. search needs) (λ c κs. search needs)
+    with-stock-requires (λ c κs. search needs) returns-3)

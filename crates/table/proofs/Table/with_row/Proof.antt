@@ -12,14 +12,7 @@ returns c =
     let a = c .before .args in
     λ i. record { period = a .t1 .period; seen = a .t1 .seen; rows = sym (set-out (a .t1 .rows) (a .at) (a .row) (omega (arith, simp length-map at (c .before .good .0 .1 .1 .1 .1 .0 .1 .0 .1)))) i }
 
-mul-row : tie.Need-mul-row
-mul-row c = search needs
-
-element-set-from-row : tie.Need-element-set-from-row
-element-set-from-row c = search needs
-
-returns-2 : tie.Need-returns-2
-returns-2 c = search needs
-
 pub with-row-spec : {M : Type 1} → statement M
-with-row-spec = tie.close (tie.spec returns mul-row element-set-from-row returns-2)
+with-row-spec = tie.close
+    (tie.spec
+    returns (λ c. search needs) (λ c. search needs) (λ c. search needs))

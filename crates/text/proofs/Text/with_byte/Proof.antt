@@ -8,14 +8,10 @@ use Rattle.text.proofs.Text.with_byte.Tie as tie
 returns : tie.Need-returns
 returns c = let a = c .before .args in sym (full-stays (a .self) (a .b) (c .if1 .taken))
 
-element-write-next : tie.Need-element-write-next
-element-write-next c = search needs
-
-add-next : tie.Need-add-next
-add-next c = search needs
-
 returns-2 : tie.Need-returns-2
 returns-2 c = let a = c .before .args in sym (room-takes (a .self) (a .b) (c .if1 .left))
 
 pub with-byte-spec : {M : Type 1} → statement M
-with-byte-spec = tie.close (tie.spec returns element-write-next add-next returns-2)
+with-byte-spec = tie.close
+    (tie.spec
+    returns (λ c. search needs) (λ c. search needs) returns-2)
