@@ -52,21 +52,21 @@ module _ (s : List ℕ) (sheet : Sheet) (m : List ℕ) (events : ℕ) where
   clear-apiece : Clear (rules s sheet m events) → Apiece
   clear-apiece clear =
       let c = clear-at (rules s sheet m events) clear in (
-    record {
-      framed = c 2;
-      kind = c 3;
-      size = c 4;
-      there = c 5;
-      range = c 6;
-      listed = c 7;
-      timely = c 10;
-      few = c 11;
-      low = c 12;
-      some = c 13;
-    },
-    c 14,
-    c 15,
-  )
+        record {
+          framed = c 2;
+          kind = c 3;
+          size = c 4;
+          there = c 5;
+          range = c 6;
+          listed = c 7;
+          timely = c 10;
+          few = c 11;
+          low = c 12;
+          some = c 13;
+        },
+        c 14,
+        c 15,
+      )
 
   apiece-clear : Apiece → Clear (rules s sheet m events)
   apiece-clear (r, a, f) =

@@ -181,7 +181,11 @@ fn plan_close(
     let head = slot.head;
     let figures = slot.figures;
     let at = roll.named(bytes);
-    let rest = if codes::MOST_EVENTS <= ledger.events { 15 } else { 0 };
+    let rest = if codes::MOST_EVENTS <= ledger.events {
+        15
+    } else {
+        0
+    };
     let answer = first_of_named(
         !sheet.there,
         number == 0,

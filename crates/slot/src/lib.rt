@@ -137,7 +137,11 @@ impl Slot {
         if !head.listed() {
             return false;
         }
-        if (527040 <= head.t0) | (self.last < head.t0) | (codes::LATEST < self.last) | (64 < self.steps) {
+        if (527040 <= head.t0)
+            | (self.last < head.t0)
+            | (codes::LATEST < self.last)
+            | (64 < self.steps)
+        {
             return false;
         }
         let minutes = self.last - head.t0;
