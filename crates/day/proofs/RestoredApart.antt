@@ -6,7 +6,7 @@ use mathlib.Core.List.{List, [], _∷_}
 use Rattle.codes.specs.Codes.{rowOf, levelOf, causes, causeListed}
 use Rattle.annex.specs.Figures.{withStep}
 use Rattle.annex.specs.Times.{minutesIn, isShort}
-use Rattle.marks.specs.Marks.{marked}
+use Rattle.marks.specs.Marks.{marked, markedWith}
 use Rattle.verdict.specs.Verdict.{eventVerdict}
 use Rattle.ledger.specs.declared.Ledger.{Ledger}
 use Rattle.ledger.specs.Ledger.{cellOf, added}
@@ -36,7 +36,7 @@ abbrev pub counted : Ledger → List ℕ
 counted l = l .events ∷ cellOf l 0 0 .customers .0 ∷ cellOf l 0 0 .halves .0 ∷ []
 
 pub restored-sound : Sound restoredApart × Marked restoredApart
-unfolding soundLedger deskSound slotSound isFree openSound rowOf levelOf causes causeListed withStep minutesIn isShort marked eventVerdict added lookAnswer planOf messageAnswer ledgerServed mapServed deskServed
+unfolding soundLedger deskSound slotSound isFree openSound rowOf levelOf causes causeListed withStep minutesIn isShort marked eventVerdict added lookAnswer planOf messageAnswer ledgerServed mapServed deskServed markedWith
 restored-sound = (record { ledger = refl; map = refl; desk = refl }, (λ _. refl, marked-none (restoredApart .map) 31))
 
 -- 50 customers, 2 x 50 x 30 half minutes: once after the close, twice after it was taken again
@@ -44,10 +44,10 @@ pub counted-twice :
     (counted (closedDay .ledger) ≡ 1 ∷ 50 ∷ 3000 ∷ []) ×
     (answersTo restoredApart (close-7 ∷ []) ≡ 0 ∷ []) ×
     (counted (after restoredApart close-7 .ledger) ≡ 2 ∷ 100 ∷ 6000 ∷ [])
-unfolding soundLedger deskSound slotSound isFree openSound rowOf levelOf causes causeListed withStep minutesIn isShort eventVerdict added lookAnswer planOf messageAnswer ledgerServed mapServed deskServed
+unfolding soundLedger deskSound slotSound isFree openSound rowOf levelOf causes causeListed withStep minutesIn isShort eventVerdict added lookAnswer planOf messageAnswer ledgerServed mapServed deskServed markedWith
 counted-twice = (refl, refl, refl)
 
 -- where the three are from one time, the close is refused (8)
 pub counted-once : answersTo closedDay (close-7 ∷ []) ≡ 8 ∷ []
-unfolding soundLedger deskSound slotSound isFree openSound rowOf levelOf causes causeListed withStep minutesIn isShort eventVerdict added lookAnswer planOf messageAnswer ledgerServed mapServed deskServed
+unfolding soundLedger deskSound slotSound isFree openSound rowOf levelOf causes causeListed withStep minutesIn isShort eventVerdict added lookAnswer planOf messageAnswer ledgerServed mapServed deskServed markedWith
 counted-once = refl
