@@ -8,7 +8,6 @@ use Rattle.codes.specs.declared.Set.{Set}
 use Rattle.codes.specs.declared.Set.the-variants.{All, Std, Unnamed}
 use Rattle.codes.specs.Codes.{rowOf, rowHeld}
 use Rattle.annex.specs.Figure.{Figure, Off, Halves}
-use Rattle.ledger.specs.declared.Cell.{Cell}
 use Rattle.ledger.specs.declared.Ledger.{Ledger}
 use Rattle.ledger.specs.Ledger.{held, heldIn}
 use Rattle.ledger.proofs.CellLaws.{held-by}

@@ -1,5 +1,5 @@
--- What "levels and event types add up to the network, and CAIDI times SAIFI is SAIDI wherever SAIFI and CAIDI both exist" says: of the ledger of an
--- accepted book, of the book's events (003, 4.3.2), and of the exact fractions. CAIDI does not add.
+-- Levels and event types add up to the network, and CAIDI times SAIFI is SAIDI wherever SAIFI and CAIDI both exist: of the ledger of an accepted
+-- book, of the book's events (003, 4.3.2), and of the exact fractions. CAIDI does not add.
 use Prim.Native.Nat.{ℕ, _+_}
 use mathlib.Core.Path.{_≡_}
 use mathlib.Core.List.{List, [], _∷_, map}

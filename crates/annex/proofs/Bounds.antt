@@ -10,12 +10,12 @@ use Rattle.codes.specs.Codes.{levels}
 use Rattle.annex.specs.declared.Course.{Course}
 use Rattle.annex.specs.declared.Simple.{Simple}
 use Rattle.annex.specs.declared.Step.{Step}
-use Rattle.annex.specs.Figures.{halvesAt, withStep}
+use Rattle.annex.specs.Figures.{withStep}
 use Rattle.annex.specs.Simple.{simpleFigures, InOrder}
 use Rattle.annex.specs.Stepped.{begun, coursed, steppedFigures}
 use Rattle.annex.specs.Annex.{countsOf, weighed}
 use Rattle.annex.specs.Figure.{Off, Halves}
-use Rattle.annex.specs.Inside.{Few, Room, Timely, Ready, Within, Ordered}
+use Rattle.annex.specs.Inside.{Few, Timely, Ready, Within, Ordered}
 use Rattle.annex.proofs.FoldLaws.{each-level, simple-customers, simple-halves, stepped-customers, stepped-halves}
 
 pub few-at : {m : ℕ} {n : List ℕ} → Few m n → (h : ℕ) → h < levels → getD n h 0 ≤ m

@@ -1,6 +1,6 @@
 -- What a simple event adds (01, "What one event adds", Simple; 003, 4.3.1).
 use Prim.Native.Nat.{ℕ, _+_, _*_, _-_, _≤_}
-use mathlib.Core.List.{List, [], _∷_}
+use mathlib.Core.List.{[], _∷_}
 use lib.ListN.{getD}
 use Rattle.codes.specs.Ranges.{latest}
 use Rattle.annex.specs.declared.HalfMinutes.{HalfMinutes}

@@ -46,7 +46,7 @@ runOf l m book =
       which = endsBy book;
     }
 
--- "an unsound ledger or a map of another size answers 1, reads nothing and changes nothing"
+-- an unsound ledger or a map of another size answers 1, reads nothing and changes nothing
 unfoldable pub readOf : Ledger → List ℕ → List ℕ → Read
 readOf l m book =
     cond (unsound l m)

@@ -1,7 +1,7 @@
 -- "Times are minutes from 1 January 00:00 of the reporting year" (01, "Bytes on the wire"), as people write them: month, day, hour and minute.
 use Prim.Native.Nat.{ℕ, zero, suc, _+_, _-_, _*_, _/_, _%_}
 use mathlib.Core.List.{List, [], _∷_}
-use mathlib.Core.Bool.{Bool, true, false, cond}
+use mathlib.Core.Bool.{true, false, cond}
 use lib.Dec.{eqb, ltb, leb}
 use lib.ListN.{getD}
 use Rattle.calendar.specs.declared.Date.{Date}

@@ -15,7 +15,6 @@ use Rattle.base.proofs.ListLaws.{all-append}
 use Rattle.wire.specs.Numbers.{le16, le32, countsAt, le2, le4}
 use Rattle.wire.specs.Frame.{framed, kindOf}
 use Rattle.wire.proofs.WriteLaws.{of-two, of-four, le32-behind}
-use Rattle.annex.specs.declared.Simple.{Simple}
 use Rattle.annex.specs.declared.Step.{Step}
 use Rattle.fields.specs.declared.Head.{Head}
 use Rattle.fields.specs.Fields.{sheetIn, headIn, simpleIn, stepAt, stepsFrom, stepCount, stepsIn}

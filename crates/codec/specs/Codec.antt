@@ -16,7 +16,7 @@ fourEach (v ∷ vs) = le4 v ++ fourEach vs
 abbrev pub frame : ℕ → ℕ → List ℕ
 frame length kind = le2 length ++ le2 kind
 
--- kind 1: "year 2, customers of each level 3x4; 18"
+-- kind 1: year 2, customers of each level 3x4; 18
 abbrev pub sheetRecord : ℕ → List ℕ → List ℕ
 sheetRecord year totals = frame 18 1 ++ (le2 year ++ fourEach totals)
 
@@ -24,7 +24,7 @@ sheetRecord year totals = frame 18 1 ++ (le2 year ++ fourEach totals)
 abbrev pub headBytes : Head → List ℕ
 headBytes h = le2 (h .number) ++ (h .typ % 256 ∷ h .voltage % 256 ∷ h .cause % 256 ∷ le4 (h .t0))
 
--- kind 2: the head, then "T1 T2 T3 T4, n1 3x4, n2 3x4; 53"
+-- kind 2: the head, then T1 T2 T3 T4, n1 3x4, n2 3x4; 53
 abbrev pub simpleRecord : Head → List ℕ → List ℕ
 simpleRecord h numbers = frame 53 2 ++ (headBytes h ++ fourEach numbers)
 
@@ -32,7 +32,7 @@ simpleRecord h numbers = frame 53 2 ++ (headBytes h ++ fourEach numbers)
 abbrev pub simpleNumbers : Simple → List ℕ
 simpleNumbers e = e .t1 ∷ e .t2 ∷ e .t3 ∷ e .t4 ∷ (e .n1 ++ e .n2)
 
--- kind 3: the head, then "step count 1, then per step: time, 3 counts; 14 + 16 x steps"
+-- kind 3: the head, then step count 1, then per step: time, 3 counts; 14 + 16 x steps
 abbrev pub steppedRecord : Head → ℕ → List ℕ → List ℕ
 steppedRecord h count numbers = frame (14 + 16 * count) 3 ++ (headBytes h ++ (count ∷ fourEach numbers))
 

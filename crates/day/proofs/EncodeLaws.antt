@@ -1,24 +1,18 @@
 -- A complete event written as a record of kind 3: the bytes say what the event says, and a ledger under whose rules the event passes takes them
 -- and adds the event's figures. Assumes nothing.
-use Prim.Native.Nat.{ℕ, zero, suc, _+_, _*_, _/_, _%_, _<_, _≤_}
-use mathlib.Core.Path.{_≡_, refl, ap, _∙_, sym, subst}
+use Prim.Native.Nat.{ℕ, _+_, _*_, _<_, _≤_}
+use mathlib.Core.Path.{_≡_, refl, ap, _∙_}
 use mathlib.Core.Logic.{_≢_}
-use mathlib.Core.List.{List, [], _∷_}
+use mathlib.Core.List.{List}
 use mathlib.Core.Bool.{true, false, _||_, not, cond}
-use lib.ListN.{length, getD, drop}
-use lib.Seq.{getD-drop}
+use lib.ListN.{length}
 use lib.Dec.{eqb, leb, ltb}
 use native.Mathlib.Omega.{arith}
-use native.Mathlib.Nat.{add-assoc, div-div-eq-div-mul, div-add-mod'}
-use borrow.Author.Tests.{eq-eqb, ne-eqb, le-ltb, lt-leb, le-leb}
+use borrow.Author.Tests.{eq-eqb, ne-eqb, le-ltb, lt-leb}
 use Rattle.base.specs.First.{Clear}
-use Rattle.base.specs.Lists.{All, any, Bytes}
+use Rattle.base.specs.Lists.{All, any}
 use Rattle.base.proofs.FirstLaws.{unclear}
-use Rattle.base.proofs.TestLaws.{or-both, and-both}
-use Rattle.base.proofs.ListLaws.{byte-at}
-use Rattle.wire.specs.Numbers.{le16, le32, countsAt}
-use Rattle.wire.specs.Frame.{framed, kindOf}
-use Rattle.wire.proofs.ByteLaws.{le16-below, le32-below}
+use Rattle.base.proofs.TestLaws.{or-both}
 use Rattle.codes.specs.Codes.{levelOf}
 use Rattle.annex.specs.declared.Step.{Step}
 use Rattle.annex.specs.Stepped.{lastTime, steppedFigures}
@@ -26,7 +20,7 @@ use Rattle.annex.specs.Times.{minutesIn}
 use Rattle.marks.specs.Marks.{marked, markedWith}
 use Rattle.fields.specs.declared.Head.{Head}
 use Rattle.fields.specs.declared.Sheet.{Sheet}
-use Rattle.fields.specs.Fields.{headIn, stepAt, stepsFrom, stepCount, stepsIn}
+use Rattle.fields.specs.Fields.{headIn, stepsIn}
 use Rattle.fields.specs.Tests.{headListed}
 use Rattle.codec.specs.Fits.{HeadInBytes, StepInBytes}
 use Rattle.codec.proofs.DecodeLaws.{stepped-head, stepped-back, stepped-length, stepped-framed}

@@ -1,11 +1,10 @@
 -- Every open number stays marked, at both entries, and from an empty desk it is so at any time. Assumes nothing.
-use Prim.Native.Nat.{ℕ, zero, suc, _+_, _<_}
+use Prim.Native.Nat.{ℕ, zero, suc}
 use mathlib.Core.Path.{_≡_, refl, _∙_, ap}
 use mathlib.Core.List.{List, [], _∷_}
 use mathlib.Core.Bool.{true}
 use lib.ListN.{length, getD, set, replicate}
 use lib.Dec.{eqb}
-use native.Mathlib.Omega.{arith}
 use native.Mathlib.Decide.{ℕ-discrete}
 use borrow.Author.Tests.{eqb-true, eqb-false}
 use Rattle.base.specs.Lists.{All, Bytes}
@@ -13,7 +12,6 @@ use Rattle.base.proofs.TestLaws.{Tested, holds, fails, test}
 use Rattle.wire.proofs.ByteLaws.{le16-below}
 use Rattle.marks.specs.Marks.{marked, markedWith, mapSize}
 use Rattle.marks.proofs.MarkLaws.{markedWith-again, markedWith-other, markedWith-same}
-use Rattle.wire.specs.Numbers.{le16}
 use Rattle.fields.specs.Fields.{headIn}
 use Rattle.ledger.specs.declared.Ledger.{Ledger}
 use Rattle.ledger.specs.Sound.{soundLedger}

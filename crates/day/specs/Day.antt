@@ -1,8 +1,8 @@
 -- A day: ledger, map and desk, and what arrives at the two entries, one after the other (01, "The desk", "Bytes on the wire").
-use Prim.Native.Nat.{ℕ, _<_}
+use Prim.Native.Nat.{ℕ}
 use mathlib.Core.Path.{_≡_}
 use mathlib.Core.List.{List, [], _∷_}
-use mathlib.Core.Bool.{Bool, true, cond}
+use mathlib.Core.Bool.{true, cond}
 use lib.ListN.{length}
 use lib.Dec.{eqb}
 use Rattle.base.specs.Lists.{All}
@@ -32,7 +32,7 @@ abbrev pub answerTo : State → Arrival → ℕ
 answerTo st (message s) = messageAnswer (st .ledger) (st .map) (st .desk) s
 answerTo st (entry s) = answerOf (st .ledger) (st .map) s
 
--- "The book entry does not see the desk."
+-- The book entry does not see the desk.
 abbrev pub after : State → Arrival → State
 after st (message s) =
     record {

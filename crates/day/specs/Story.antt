@@ -1,10 +1,10 @@
 -- A day told in complete records: "From an empty desk with a given ledger and map, after any sequence of desk messages that leaves nothing open,
 -- ledger and map are those of taking the closed events as kind 3 records in the order of closing" (01, "The desk").
-use Prim.Native.Nat.{ℕ, _+_, _*_, _/_, _%_}
+use Prim.Native.Nat.{ℕ}
 use mathlib.Core.Path.{_≡_}
 use mathlib.Core.List.{List, [], _∷_, map}
 use mathlib.Core.Bool.{Bool, false, cond}
-use lib.ListN.{length, getD}
+use lib.ListN.{length}
 use lib.Dec.{eqb}
 use Rattle.base.specs.Lists.{All, keep}
 use Rattle.wire.specs.Frame.{kindOf}
@@ -94,7 +94,7 @@ about v ds = keep (names v) ds
 abbrev pub openDeeds : ℕ → Event → List Deed
 openDeeds v e = opens (e .head) ∷ map (λ st. steps v st) (e .steps)
 
--- "3 stepped event: number 2, type 1, voltage 1, cause 1, T0, step count 1, then per step: time, 3 counts; 14 + 16 x steps"
+-- 3 stepped event: number 2, type 1, voltage 1, cause 1, T0, step count 1, then per step: time, 3 counts; 14 + 16 x steps
 abbrev pub recordOf : Event → List ℕ
 recordOf e = eventRecord (e .head) (e .steps)
 

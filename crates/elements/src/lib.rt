@@ -3,10 +3,7 @@ ghost use mathlib.Core.Path.{_≡_};
 ghost use Rattle.base.specs.Lists.{listed, place};
 ghost use Rattle.elements.specs.Elements.{elementListed, rowOf, codeAt};
 
-// How many codes are listed: an element table has a row for each.
-pub const ELEMENTS: usize = 62;
-
-// Section 9.8, as printed.
+// Section 9.8, as printed: an element table has a row for each.
 const CODES: [u16; 62] = [
     1,
     2,

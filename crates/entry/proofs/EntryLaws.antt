@@ -10,7 +10,7 @@ use native.Mathlib.Omega.{arith}
 use native.Mathlib.Numerals.{add-one}
 use borrow.Author.Tests.{ne-eqb, eq-eqb}
 use Rattle.base.proofs.TestLaws.{Tested, holds, fails, test}
-use Rattle.shape.specs.Shape.{itemOf, mostOf, wholeOf, noEntry}
+use Rattle.shape.specs.Shape.{itemOf, mostOf, wholeOf}
 use Rattle.scan.specs.declared.Found.{Found}
 use Rattle.scan.specs.Scan.{read, saidAt, gapsIn, endsHere, partedHere, separatorOf, otherAt, gapSaid, itemFound}
 use Rattle.scan.proofs.ScanLaws.{gaps-short, item-short, said-short}

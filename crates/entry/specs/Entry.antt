@@ -1,10 +1,9 @@
 -- A line of text read as an entry (docs/TEXT.md): its word, then its items, each parted from the next.
-use Prim.Native.Nat.{ℕ, zero, suc, _+_, _-_}
-use mathlib.Core.List.{List, [], _∷_, _++_}
+use Prim.Native.Nat.{ℕ, zero, suc, _+_}
+use mathlib.Core.List.{List, [], _∷_}
 use mathlib.Core.Bool.{Bool, true, false, _&&_, not, cond}
 use lib.Dec.{eqb, ltb, leb}
-use lib.ListN.{length, take, drop, replicate}
-use Rattle.shape.specs.declared.Entry.{Entry}
+use lib.ListN.{length, take, drop}
 use Rattle.shape.specs.Shape.{itemOf, mostOf, wholeOf, entryOf, noEntry}
 use Rattle.scan.specs.declared.Found.{Found}
 use Rattle.scan.specs.Scan.{saidAt, gapsIn, endsHere, partedHere, separatorOf, otherAt, gapSaid, itemFound}

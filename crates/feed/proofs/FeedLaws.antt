@@ -7,7 +7,7 @@ use mathlib.Core.Bool.{true, false, _&&_}
 use mathlib.Core.List.{List}
 use lib.Dec.{eqb}
 use lib.ListN.{length, take, length-take}
-use borrow.Author.Tests.{eqb-true, eq-eqb, ne-eqb}
+use borrow.Author.Tests.{eqb-true, ne-eqb}
 use Rattle.base.proofs.TestLaws.{and-left, and-right}
 use Rattle.wire.specs.Cut.{recordsOf, stopFrom}
 use Rattle.records.specs.Pieces.{mostRefused, deadRest, moved, Held, heldAfter, bufferOn}

@@ -1,7 +1,7 @@
 -- The calls of a reading in pieces, with a feed and its map: begin, pieces, finish.
 use Prim.Native.Nat.{ℕ}
 use mathlib.Core.List.{List}
-use Rattle.records.specs.Calls.{Call, Taker}
+use Rattle.records.specs.Calls.{Taker}
 use Rattle.feed.specs.declared.Feed.{Feed}
 use Rattle.feed.specs.Feed.{fedAnswer, fedOf, mapFed, bufferFed}
 

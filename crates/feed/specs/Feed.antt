@@ -1,7 +1,7 @@
 -- A book taken in pieces: "the year report reads one book from standard input", of any length, in constant memory.
 use Prim.Native.Nat.{ℕ, _+_}
 use mathlib.Core.List.{List}
-use mathlib.Core.Bool.{Bool, true, false, _&&_, cond}
+use mathlib.Core.Bool.{true, false, _&&_, cond}
 use lib.ListN.{length}
 use lib.Dec.{eqb}
 use Rattle.records.specs.Pieces.{Held, heldOn, bufferOn, endAnswer, pieceAnswer}

@@ -24,7 +24,6 @@ use Rattle.index.specs.declared.Level.{Level}
 use Rattle.index.specs.declared.Level.the-variants.{NN, VN, VVN, Network}
 use Rattle.index.specs.declared.Index.{Index}
 use Rattle.index.specs.declared.Index.the-variants.{Saifi, Saidi, Caidi}
-use Rattle.index.specs.declared.Answer.{Answer}
 use Rattle.index.specs.declared.Answer.the-variants.{Is, Refused}
 use Rattle.index.specs.Sums.{levelSum, totalOf}
 use Rattle.index.specs.Index.{formulaOf, weightOf, dividedBy, indexOf}

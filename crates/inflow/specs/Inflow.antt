@@ -5,7 +5,7 @@ use mathlib.Core.Bool.{true, false, cond}
 use lib.ListN.{length}
 use lib.Dec.{eqb}
 use Rattle.records.specs.Pieces.{Held, heldOn, bufferOn, endAnswer, pieceAnswer}
-use Rattle.records.specs.Calls.{Call, Taker}
+use Rattle.records.specs.Calls.{Taker}
 use Rattle.table.specs.declared.Table.{Table}
 use Rattle.table.specs.Table.{soundTable, fileBegun}
 use Rattle.yearly.specs.declared.Reading.{Reading}

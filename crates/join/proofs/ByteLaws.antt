@@ -1,15 +1,12 @@
 -- The bytes of a joined book: a whole book is its records joined, and whole records that are joined are cut apart again, so the records of the joined
 -- book are those of the first and the events of the second. Assumes nothing.
-use Prim.Native.Nat.{ℕ, zero, suc, _+_, _<_, _≤_}
+use Prim.Native.Nat.{ℕ}
 use mathlib.Core.Path.{_≡_, refl, sym, ap, _∙_, subst}
 use mathlib.Core.List.{List, [], _∷_, _++_, append-assoc}
 use mathlib.Core.Bool.{Bool, false, not}
-use lib.ListN.{getD}
 use lib.Dec.{eqb}
-use native.Mathlib.Omega.{arith}
-use Rattle.base.specs.Lists.{All, keep, Byte, Bytes}
-use Rattle.base.proofs.ListLaws.{all-append, all-front, all-back, all-kept, keep-append, keep-again}
-use Rattle.wire.specs.Numbers.{le16}
+use Rattle.base.specs.Lists.{All, keep, Bytes}
+use Rattle.base.proofs.ListLaws.{all-append, all-kept, keep-append, keep-again}
 use Rattle.wire.specs.Frame.{kindOf}
 use Rattle.wire.specs.Cut.{recordsOf, joined}
 use Rattle.wire.proofs.CutLaws.{Framed, cut-joined, records-framed}

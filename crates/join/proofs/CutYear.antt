@@ -3,13 +3,9 @@
 use Prim.Native.Nat.{ℕ}
 use mathlib.Core.Path.{_≡_, refl, ap}
 use mathlib.Core.List.{List, [], _∷_}
-use mathlib.Core.Bool.{true, true≢false}
+use mathlib.Core.Bool.{true≢false}
 use lib.ListN.{getD}
-use lib.Dec.{ltb}
 use native.Mathlib.Omega.{arith}
-use borrow.Author.Tests.{ltb-true}
-use Rattle.base.specs.Lists.{every, Bytes}
-use Rattle.base.proofs.TestLaws.{and-left, and-right}
 use Rattle.base.proofs.ListLaws.{bytes-by-test}
 use Rattle.wire.specs.Book.{placeAt}
 use Rattle.wire.specs.Cut.{cutIn, recordsOf, stopIn, stopFrom}

@@ -1,16 +1,15 @@
 -- The annex's sums over two lists of events, one after the other, are the sums of the two. Assumes nothing.
 use Prim.Native.Nat.{ℕ, _+_}
 use mathlib.Core.Path.{_≡_, ap, _∙_}
-use mathlib.Core.List.{List, _++_, map}
+use mathlib.Core.List.{List, _++_}
 use mathlib.Core.Bool.{Bool, _&&_, not}
 use lib.ListN.{length, length-append}
 use lib.Dec.{eqb}
-use Rattle.base.specs.Lists.{sum, keep}
 use Rattle.annex.specs.Annex.{shortEvent}
 use Rattle.annex.specs.Figure.{Figure, given}
 use Rattle.sums.specs.Accepted.{eventIn, rowIn, shortOnes, sumOf}
 use Rattle.base.proofs.ListLaws.{keep-append}
-use Rattle.base.proofs.SumLaws.{sum-append, sum-kept-append}
+use Rattle.base.proofs.SumLaws.{sum-kept-append}
 
 abbrev counts : ℕ → List ℕ → Bool
 counts row = λ (s : List ℕ). eqb (rowIn s) row && not (shortEvent (eventIn s))

@@ -9,8 +9,6 @@ use mathlib.Core.Bool.{true, false}
 use Rattle.base.specs.First.{ruleOf, NoRule, Foremost, Rising}
 use Rattle.base.specs.Lists.{listed}
 use Rattle.base.proofs.FirstLaws.{exactly-then, clear, clear-at, answered-rule, passed-rule, first-listed}
-use Rattle.wire.specs.Frame.{kindOf}
-use Rattle.record.specs.Rules.{rulesAt}
 use Rattle.ledger.specs.declared.Ledger.{Ledger}
 use Rattle.ledger.specs.Take.{takeRules, answerOf}
 

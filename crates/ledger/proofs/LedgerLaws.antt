@@ -1,6 +1,6 @@
 -- What soundness says of a ledger, part by part, and that a ledger stays sound with a verdict that it has room for. Assumes nothing.
 use Prim.Native.Nat.{ℕ, _+_, _*_, _<_, _≤_}
-use mathlib.Core.Path.{_≡_, refl, sym}
+use mathlib.Core.Path.{_≡_, refl}
 use mathlib.Core.Logic.{_⊎_, inl, inr}
 use mathlib.Core.Bool.{Bool, true, false, _&&_, _||_, not, false≢true}
 use lib.ListN.{getD, set}
@@ -12,7 +12,7 @@ use Rattle.base.specs.Lists.{every}
 use Rattle.base.proofs.TestLaws.{and-left, and-right, and-both}
 use Rattle.base.proofs.ListLaws.{every-set, every-weaker, every-or-default}
 use Rattle.codes.specs.Codes.{levels}
-use Rattle.annex.specs.Figure.{Figure, Off, Halves, figureAt, mostOf}
+use Rattle.annex.specs.Figure.{Figure, Off, Halves, mostOf}
 use Rattle.fields.specs.declared.Sheet.{Sheet}
 use Rattle.fields.specs.Tests.{inRange}
 use Rattle.verdict.specs.declared.Verdict.{Verdict}
@@ -23,7 +23,7 @@ use Rattle.ledger.specs.declared.Ledger.{Ledger}
 use Rattle.ledger.specs.Ledger.{noCell, noRow, held, heldIn, grownRow, added}
 use Rattle.ledger.specs.Sound.{sheetSound, cellWithin, rowWithin, soundLedger}
 use Rattle.ledger.specs.Inside.{SpareRow, Small, Fits}
-use Rattle.ledger.proofs.CellLaws.{grownWith, row-every, grown-holds}
+use Rattle.ledger.proofs.CellLaws.{grownWith, row-every}
 
 -- a sheet that is there is in range, and one that is in range is sound whatever the events
 in-range : (there range none : Bool) → there ≡ true → (there && range || not there && none) ≡ true → range ≡ true

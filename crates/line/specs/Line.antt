@@ -1,7 +1,7 @@
 -- An entry written as a line of text (docs/TEXT.md).
 use Prim.Native.Nat.{ℕ, _+_}
 use mathlib.Core.List.{List, [], _∷_, _++_}
-use mathlib.Core.Bool.{Bool, true, false, cond}
+use mathlib.Core.Bool.{cond}
 use lib.Dec.{eqb, leb}
 use lib.ListN.{take}
 use Rattle.annex.specs.Times.{minutesIn}
@@ -20,7 +20,7 @@ dateParts d = twoText (d .month) ++ (45 ∷ []) ++ twoText (d .day) ++ (32 ∷ [
 unfoldable pub dateText : ℕ → ℕ → List ℕ
 dateText year t = dateParts (dateOf year t)
 
--- "times as minutes, or as MM-DD hh:mm where they lie within the sheet's year"
+-- times as minutes, or as MM-DD hh:mm where they lie within the sheet's year
 unfoldable pub timeText : ℕ → ℕ → List ℕ
 timeText year t = cond (eqb year 0) (numberText t) (cond (leb (minutesIn year) t) (numberText t) (dateText year t))
 

@@ -1,5 +1,5 @@
--- The element sheet (02, K1): "one line for each of the 62 codes: code, its name in the document's words, outages, rate and mean as exact fractions n/d in
--- lowest terms and as decimals with six digits, - where 17 applies". The parts of a line are parted by tabs, as names have blanks in them. Before the rate
+-- The element sheet (02, K1): one line for each of the 62 codes: code, its name in the document's words, outages, rate and mean as exact fractions n/d in
+-- lowest terms and as decimals with six digits, - where 17 applies. The parts of a line are parted by tabs, as names have blanks in them. Before the rate
 -- stands what it is per, and over the lines what each column is.
 use Prim.Native.Nat.{ℕ, _/_}
 use mathlib.Core.List.{List, [], _∷_, _++_}
@@ -16,7 +16,7 @@ use Rattle.rates.specs.Rates.{rowAt, rateOf, meanOf, shownRate, shownMean}
 use Rattle.text.specs.Text.{textOf, pushedAll, numberText, twoText}
 use Rattle.listing.specs.declared.Line.{Line}
 
--- "n/d", or "-"
+-- `n/d`, or "-"
 abbrev pub fractionText : Figure → List ℕ
 fractionText (Is f) = numberText (f .top) ++ (47 ∷ numberText (f .bottom))
 fractionText (Refused n) = 45 ∷ []
@@ -67,9 +67,9 @@ headingText =
     (9 ∷ 112 ∷ 101 ∷ 114 ∷ []) ++
     -- "rate"
     (9 ∷ 114 ∷ 97 ∷ 116 ∷ 101 ∷ []) ++
-    -- "rate, decimal"
+    -- `rate, decimal`
     (9 ∷ 114 ∷ 97 ∷ 116 ∷ 101 ∷ 44 ∷ 32 ∷ 100 ∷ 101 ∷ 99 ∷ 105 ∷ 109 ∷ 97 ∷ 108 ∷ []) ++
-    -- "mean, h"
+    -- `mean, h`
     (9 ∷ 109 ∷ 101 ∷ 97 ∷ 110 ∷ 44 ∷ 32 ∷ 104 ∷ []) ++
-    -- "mean, decimal"
+    -- `mean, decimal`
     (9 ∷ 109 ∷ 101 ∷ 97 ∷ 110 ∷ 44 ∷ 32 ∷ 100 ∷ 101 ∷ 99 ∷ 105 ∷ 109 ∷ 97 ∷ 108 ∷ 10 ∷ [])

@@ -12,7 +12,7 @@ use borrow.Author.Tests.{ltb-false, leb-true, eqb-true, lt-leb, ne-eqb}
 use Rattle.base.proofs.TestLaws.{and-left, and-right}
 use Rattle.wire.specs.Numbers.{byteAt}
 use Rattle.shape.specs.Shape.{itemOf, mostOf, wholeOf, barBefore, entryOf, limitOf, withinFrom}
-use Rattle.scan.specs.Scan.{isGap, saidAt, gapsIn, endsHere, partedHere, separatorOf}
+use Rattle.scan.specs.Scan.{isGap, saidAt, gapsIn, endsHere, partedHere}
 use Rattle.entry.specs.declared.Parsed.{Parsed}
 use Rattle.entry.specs.Entry.{isWord, wordText, wordAs, wordOf, partedItem, nextField, gapBefore, nextCell, valuesFrom, endFrom, endedBy, gathered, parsedOf}
 use Rattle.line.specs.Line.{itemText, gapText, itemsText, lineText}

@@ -2,15 +2,13 @@
 -- other from the first byte to the last, and the length, the kind and the step count, which a line does not say, are those that its sort and its numbers
 -- tell. Such a line is whole and its numbers are in range; so is one of 1 to 32 bytes in hexadecimal digits, which stands for those bytes. Assumes nothing.
 use Prim.Native.Nat.{ℕ, zero, suc, _+_, _-_, _*_, _%_, _<_, _≤_}
-use mathlib.Core.Path.{_≡_, refl, sym, ap, _∙_}
+use mathlib.Core.Path.{_≡_, refl, ap, _∙_}
 use mathlib.Core.Bool.{Bool, true, false, cond, true≢false}
-use mathlib.Core.List.{List, [], _∷_, _++_}
+use mathlib.Core.List.{List, [], _∷_}
 use lib.Dec.{eqb, ltb, leb}
-use lib.ListN.{length, drop, drop-of-length-le}
-use lib.Seq.{drop-cons}
+use lib.ListN.{length}
 use native.Mathlib.Omega.{arith}
-use native.Mathlib.Numerals.{add-one}
-use native.Mathlib.Nat.{add-suc, le-pred-of-lt}
+use native.Mathlib.Nat.{le-pred-of-lt}
 use borrow.Author.Tests.{ltb-false, le-ltb, le-leb, lt-leb, eqb-true, eqb-false, eq-eqb, ne-eqb}
 use Rattle.base.proofs.TestLaws.{Tested, holds, fails, test, and-both, and-right}
 use Rattle.base.proofs.ListLaws.{byte-at}

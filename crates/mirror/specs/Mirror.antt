@@ -1,9 +1,8 @@
--- "book_write of book_read's text gives the same bytes for every input": what a line of text stands for, as bytes.
-use Prim.Native.Nat.{ℕ, _<_}
-use mathlib.Core.List.{List, [], _∷_}
+-- book_write of book_read's text gives the same bytes for every input: what a line of text stands for, as bytes.
+use Prim.Native.Nat.{ℕ}
+use mathlib.Core.List.{List, []}
 use mathlib.Core.Bool.{cond}
 use lib.Dec.{eqb}
-use Rattle.base.specs.Lists.{All}
 use Rattle.entry.specs.Entry.{parsedOf}
 use Rattle.pack.specs.Pack.{packedOf}
 

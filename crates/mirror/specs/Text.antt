@@ -46,7 +46,7 @@ writtenFrom year (l ∷ ls) = lineBytes l year ++ writtenFrom (yearOn year l) ls
 abbrev pub written : List (List ℕ) → List ℕ
 written ls = writtenFrom 0 ls
 
--- no line is refused: "nothing is written unless all of it is right"
+-- no line is refused: nothing is written unless all of it is right
 abbrev pub rightFrom : ℕ → List (List ℕ) → Bool
 rightFrom year [] = true
 rightFrom year (l ∷ ls) = eqb (parsedOf l year .answer) 0 && rightFrom (yearOn year l) ls

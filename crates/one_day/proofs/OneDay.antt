@@ -1,13 +1,7 @@
 -- The day, computed from its bytes: so what is proved of every day is met by one. Assumes nothing.
-use Prim.Native.Nat.{ℕ}
 use mathlib.Core.Path.{_≡_, refl, sym, subst}
-use mathlib.Core.List.{List, [], _∷_, _++_, map}
-use mathlib.Core.Bool.{Bool, true}
-use lib.ListN.{replicate, take, drop}
-use lib.Dec.{ltb}
-use borrow.Author.Tests.{ltb-true}
-use Rattle.base.specs.Lists.{All, every, Bytes}
-use Rattle.base.proofs.TestLaws.{and-left, and-right}
+use mathlib.Core.List.{[], _∷_, _++_, map}
+use lib.ListN.{replicate, take}
 use Rattle.base.proofs.ListLaws.{all-bytes-by-test}
 use Rattle.codes.specs.Codes.{rowOf, levelOf, causes, causeListed}
 use Rattle.annex.specs.Times.{minutesIn, isShort}
@@ -16,8 +10,7 @@ use Rattle.annex.specs.Simple.{simpleFigures}
 use Rattle.marks.specs.Marks.{marked, marking, markedWith}
 use Rattle.verdict.specs.Verdict.{eventVerdict}
 use Rattle.record.specs.Verdict.{recordAnswer, verdictOf}
-use Rattle.ledger.specs.declared.Ledger.{Ledger}
-use Rattle.ledger.specs.Ledger.{emptyLedger, cellOf, added}
+use Rattle.ledger.specs.Ledger.{emptyLedger, added}
 use Rattle.ledger.specs.Sound.{soundLedger}
 use Rattle.ledger.specs.Take.{answerOf, ledgerAfter, mapAfter}
 use Rattle.book.specs.Book.{starting, takeAll}

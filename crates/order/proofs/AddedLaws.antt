@@ -6,7 +6,7 @@ use mathlib.Core.List.{List, [], _∷_}
 use lib.ListN.{getD, set}
 use native.Mathlib.Nat.{add-right-comm}
 use Rattle.annex.specs.declared.Figures.{Figures}
-use Rattle.annex.specs.Figure.{Figure, figureAt}
+use Rattle.annex.specs.Figure.{figureAt}
 use Rattle.verdict.specs.declared.Verdict.{Verdict}
 use Rattle.ledger.specs.declared.Cell.{Cell}
 use Rattle.ledger.specs.declared.TypeRow.{TypeRow}

@@ -9,7 +9,7 @@ use lib.ListN.{length}
 use lib.Dec.{eqb, leb, ltb}
 use native.Mathlib.Nat.{add-zero}
 use native.Mathlib.Omega.{arith}
-use borrow.Author.Tests.{eqb-true, eqb-false, eq-eqb, leb-false, lt-leb, ltb-true, ltb-false, not-true, not-false}
+use borrow.Author.Tests.{eqb-false, eq-eqb, leb-false, lt-leb, ltb-true, ltb-false, not-true, not-false}
 use Rattle.base.specs.First.{Clear}
 use Rattle.base.specs.Lists.{All}
 use Rattle.base.proofs.FirstLaws.{unclear, clear-at}

@@ -1,7 +1,7 @@
 -- The bytes that a line stands for, by 01's table ("Bytes on the wire").
 use Prim.Native.Nat.{ℕ, _-_, _/_, _%_}
-use mathlib.Core.List.{List, [], _∷_, _++_}
-use mathlib.Core.Bool.{Bool, not, cond}
+use mathlib.Core.List.{List, [], _∷_}
+use mathlib.Core.Bool.{not, cond}
 use lib.Dec.{eqb}
 use lib.ListN.{length, take, drop, getD}
 use Rattle.fields.specs.declared.Head.{Head}

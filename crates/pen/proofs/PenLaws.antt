@@ -1,5 +1,5 @@
 -- Bytes pushed piece by piece are the pieces joined; the buffer keeps its length, and what fits stands at its front. Assumes nothing.
-use Prim.Native.Nat.{ℕ, zero, suc, _+_, _<_, _≤_}
+use Prim.Native.Nat.{ℕ, suc, _+_, _<_, _≤_}
 use mathlib.Core.Path.{_≡_, refl, sym, ap, _∙_}
 use mathlib.Core.List.{List, [], _∷_, _++_, append-nil}
 use lib.ListN.{length, length-append, length-set, set, drop, getD, drop-of-length-le}

@@ -1,7 +1,7 @@
 -- Bytes written one after the other into a buffer, and what numbers look like in hexadecimal digits.
 use Prim.Native.Nat.{ℕ, _+_, _/_, _%_}
-use mathlib.Core.List.{List, [], _∷_, _++_}
-use mathlib.Core.Bool.{Bool, cond}
+use mathlib.Core.List.{List, [], _∷_}
+use mathlib.Core.Bool.{cond}
 use lib.ListN.{length, set}
 use lib.Dec.{ltb, leb}
 

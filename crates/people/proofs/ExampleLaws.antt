@@ -2,11 +2,10 @@
 -- theorem speaks of it, and of 68696 halves and not of 0. Assumes nothing.
 use Prim.Native.Nat.{ℕ, zero, suc, _+_, _<_}
 use mathlib.Core.Path.{_≡_, refl, ap, _∙_}
-use mathlib.Core.List.{List, [], _∷_, _++_}
+use mathlib.Core.List.{List}
 use mathlib.Core.Bool.{Bool}
 use lib.ListN.{length, getD, replicate}
 use native.Mathlib.Omega.{arith}
-use Rattle.base.specs.Lists.{All}
 use Rattle.base.proofs.ListLaws.{all-append, all-alike}
 use Rattle.codes.specs.Codes.{rowOf, levelOf, causeListed}
 use Rattle.annex.specs.Times.{minutesIn, isShort}

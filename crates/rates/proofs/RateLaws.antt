@@ -8,7 +8,6 @@ use native.Mathlib.Omega.{arith}
 use borrow.Author.Tests.{ne-eqb}
 use Rattle.base.proofs.TestLaws.{or-both}
 use Rattle.ratio.specs.declared.Fraction.{Fraction}
-use Rattle.ratio.specs.Fraction.{Same}
 use Rattle.ratio.specs.Lowest.{Lowest, lowestOf}
 use Rattle.ratio.proofs.Euclid.{lowest-same, lowest-lowest, lowest-decides}
 use Rattle.elements.specs.Elements.{elementListed}

@@ -1,7 +1,7 @@
 -- 003, section 5, as 02 (K1) takes it: "outages / (pieces x years), or for lines 1000 x outages / (tenths of km x years) per year and 100 km, and the
 -- mean outage in hours as minutes / (60 x outages). All are exact fractions."
 use Prim.Native.Nat.{ℕ, _*_}
-use mathlib.Core.Bool.{Bool, _||_, not, cond}
+use mathlib.Core.Bool.{_||_, not, cond}
 use mathlib.Core.Path.{_≡_}
 use lib.Dec.{eqb}
 use Rattle.ratio.specs.declared.Fraction.{Fraction}
@@ -25,7 +25,7 @@ rowAt t code = rowOr (t .rows) (rowOf code)
 abbrev pub weightOf : ℕ → ℕ
 weightOf stock = cond (eqb stock 2) 1000 1
 
--- 1: an unsound table; 7: an unknown code; 17: "a code without stock", stock or length of 0
+-- 1: an unsound table; 7: an unknown code; 17: a code without stock, stock or length of 0
 unfoldable pub rateOf : Table → ℕ → Figure
 rateOf t code =
     cond (not (soundTable t)) (Refused 1)

@@ -1,7 +1,7 @@
 -- "Lowest terms, zero as 0/1" (01, "Indices").
 use Prim.Native.Nat.{ℕ, zero, suc, _/_, _%_, _∣_}
 use mathlib.Core.Path.{_≡_}
-use mathlib.Core.Bool.{Bool, true, false}
+use mathlib.Core.Bool.{true, false}
 use lib.Dec.{eqb}
 use Rattle.ratio.specs.declared.Fraction.{Fraction}
 

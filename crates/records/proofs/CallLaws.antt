@@ -1,5 +1,5 @@
 -- After any run of calls that are answered 0 the pieces that were put in are held, over any reading whose calls go on as `heldOn` does. Assumes nothing.
-use mathlib.Core.Path.{_≡_, sym}
+use mathlib.Core.Path.{_≡_}
 use Prim.Native.Nat.{ℕ, _≤_}
 use native.Mathlib.Omega.{arith}
 use mathlib.Core.List.{List, [], _∷_}

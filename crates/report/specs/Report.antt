@@ -65,7 +65,7 @@ linesText l =
 unfoldable pub reportText : Ledger → ℕ → List ℕ
 reportText l refused = headText l refused ++ cond (l .sheet .there) (linesText l) []
 
--- "The report's text of an unsound ledger: 1, no text."
+-- The report's text of an unsound ledger: 1, no text.
 unfoldable pub reportOf : Ledger → ℕ → Report
 reportOf l refused =
     cond (soundLedger l) (record { answer = 0; text = textOf (reportText l refused) }) (record { answer = 1; text = textOf [] })

@@ -16,7 +16,7 @@ mostOutages = 65535
 abbrev pub longest : ℕ
 longest = 600000
 
--- "outages over 65,535, minutes over outages x 600,000, a stock mark that is none of its values, no stock marked but an amount not 0"
+-- outages over 65,535, minutes over outages x 600,000, a stock mark that is none of its values, no stock marked but an amount not 0
 abbrev pub rowWithin : Row → Bool
 rowWithin r =
     leb (r .outages) mostOutages && leb (r .minutes) (r .outages * longest) && leb (r .stock) 2 && (ltb 0 (r .stock) || eqb (r .amount) 0)

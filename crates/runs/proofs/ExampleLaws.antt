@@ -6,7 +6,6 @@ use mathlib.Core.List.{List, [], _∷_}
 use mathlib.Core.Bool.{Bool, true}
 use lib.ListN.{replicate}
 use lib.Dec.{ltb}
-use borrow.Author.Tests.{ltb-true}
 use Rattle.base.specs.Lists.{All, every, Bytes}
 use Rattle.base.proofs.TestLaws.{and-left, and-right}
 use Rattle.base.proofs.ListLaws.{bytes-by-test}

@@ -5,7 +5,7 @@ use mathlib.Core.Path.{_≡_, refl, ap, _∙_, sym, subst}
 use mathlib.Core.List.{List, [], _∷_, _++_, map, append-nil, append-assoc, map-append}
 use mathlib.Core.Bool.{Bool, true, false, cond}
 use lib.Dec.{eqb}
-use Rattle.base.specs.Lists.{All, keep, Bytes}
+use Rattle.base.specs.Lists.{All, Bytes}
 use Rattle.base.proofs.ListLaws.{all-front, all-back, keep-append, all-append}
 use Rattle.annex.specs.declared.Step.{Step}
 use Rattle.fields.specs.declared.Head.{Head}

@@ -1,6 +1,6 @@
 -- Arrivals that are all accepted, one after the other and one list after the other; each of them is among those accepted. Assumes nothing.
 use mathlib.Core.Path.{_≡_, refl, ap, _∙_, sym, subst}
-use mathlib.Core.List.{List, [], _∷_, _++_, map}
+use mathlib.Core.List.{List, [], _∷_, _++_}
 use mathlib.Core.Bool.{cond}
 use borrow.Author.Tests.{eq-eqb}
 use Rattle.base.specs.Lists.{All}

@@ -8,15 +8,15 @@ use Rattle.fields.specs.declared.Head.{Head}
 use Rattle.codec.specs.Codec.{fourEach, frame, headBytes, stepNumbers}
 use Rattle.day.specs.Story.{Event, eventIn}
 
--- "16 open: number 2, type 1, voltage 1, cause 1, T0; 13"
+-- 16 open: number 2, type 1, voltage 1, cause 1, T0; 13
 abbrev pub openOf : Head → List ℕ
 openOf h = frame 13 16 ++ headBytes h
 
--- "17 step: number 2, ordinal 1, time, 3 counts; 23"
+-- 17 step: number 2, ordinal 1, time, 3 counts; 23
 abbrev pub stepOf : ℕ → ℕ → Step → List ℕ
 stepOf v ordinal st = frame 23 17 ++ (le2 v ++ (ordinal ∷ fourEach (stepNumbers (st ∷ []))))
 
--- "18 close: number 2, steps taken 1; 7"
+-- 18 close: number 2, steps taken 1; 7
 abbrev pub closeOf : ℕ → ℕ → List ℕ
 closeOf v taken = frame 7 18 ++ (le2 v ++ (taken ∷ []))
 

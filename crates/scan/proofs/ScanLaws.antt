@@ -1,7 +1,7 @@
 -- Gaps and digits one byte at a time, and what is read of a line is within it. Assumes nothing.
-use Prim.Native.Nat.{ℕ, zero, suc, _+_, _-_, _*_, _<_, _≤_}
+use Prim.Native.Nat.{ℕ, _+_, _-_, _*_, _<_, _≤_}
 use mathlib.Core.Path.{_≡_, refl, sym, ap, _∙_}
-use mathlib.Core.Bool.{Bool, true, false, _&&_, _||_, not, cond, false≢true, true≢false}
+use mathlib.Core.Bool.{Bool, true, false, _&&_, not, cond, false≢true, true≢false}
 use mathlib.Core.List.{List, [], _∷_}
 use lib.Dec.{eqb, ltb, leb}
 use lib.ListN.{length, take, drop, getD, length-drop, drop-of-length-le, List·getD-eq-default}
@@ -13,8 +13,7 @@ use Rattle.base.proofs.TestLaws.{Tested, holds, fails, test, and-right}
 use Rattle.wire.specs.Numbers.{byteAt}
 use Rattle.wire.specs.Book.{partOf}
 use Rattle.scan.specs.declared.Found.{Found}
-use Rattle.scan.specs.declared.Run.{Run}
-use Rattle.scan.specs.Scan.{isGap, gapsIn, endsHere, saidAt, separates, separatorOf, firstOf, isOther, otherAt, placeOf, secondOf, gapSaid, isDigit, grown, runFrom, runOf, numberFound, twoStand, dateStands, dateMinute, dateFound, timeFound, hexValue, hexFound, itemFound, read, expected}
+use Rattle.scan.specs.Scan.{isGap, gapsIn, endsHere, saidAt, separates, separatorOf, firstOf, otherAt, placeOf, secondOf, gapSaid, isDigit, grown, runFrom, runOf, numberFound, twoStand, dateStands, dateMinute, dateFound, timeFound, hexValue, hexFound, itemFound, read, expected}
 
 -- the part from an offset to the end is what is left there
 pub part-is-rest : (s : List ℕ) (a : ℕ) → partOf s a (length s) ≡ drop a s

@@ -1,7 +1,7 @@
 -- The items of a line of text (docs/TEXT.md), read from the front of what is left of the line.
-use Prim.Native.Nat.{ℕ, zero, suc, _+_, _-_, _*_, _/_, _%_}
+use Prim.Native.Nat.{ℕ, suc, _+_, _-_, _*_}
 use mathlib.Core.List.{List, [], _∷_}
-use mathlib.Core.Bool.{Bool, true, false, _&&_, _||_, not, cond}
+use mathlib.Core.Bool.{Bool, true, _&&_, _||_, not, cond}
 use lib.Dec.{eqb, ltb, leb}
 use lib.ListN.{length, drop}
 use Rattle.wire.specs.Numbers.{byteAt}
@@ -74,7 +74,7 @@ gapSaid gap sep due =
     (cond (leb (length gap) (placeOf gap sep)) (saidAt 14 (length gap))
     (cond (ltb (secondOf gap sep) (length gap)) (saidAt 15 (secondOf gap sep)) (saidAt 0 0))))
 
--- "numbers in plain decimal": 0 to 9
+-- numbers in plain decimal: 0 to 9
 unfoldable pub isDigit : ℕ → Bool
 isDigit b = leb 48 b && leb b 57
 
@@ -119,7 +119,7 @@ dateFound s year =
     (cond (not (dateMinute s year .there)) (expected 8)
     (read (dateMinute s year .value) 11)))
 
--- "times as minutes, or as MM-DD hh:mm"
+-- times as minutes, or as MM-DD hh:mm
 unfoldable pub timeFound : List ℕ → ℕ → Found
 timeFound s year = cond (eqb (byteAt s 2) 45) (dateFound s year) (numberFound s 4294967295 6 5)
 

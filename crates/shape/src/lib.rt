@@ -24,10 +24,7 @@ pub const TIME: u8 = 4;
 
 pub const DIGITS: u8 = 5;
 
-// As many items as the longest line has: a stepped event of 64 steps.
-pub const MOST: usize = 261;
-
-// What a line says: its sort, and the numbers of its items; those past them are 0.
+// What a line says: its sort, and the numbers of its items, as many as a stepped event of 64 steps has; those past them are 0.
 pub struct Entry {
     pub kind: u8,
     pub count: usize,

@@ -1,6 +1,6 @@
 -- The theorem *accepted events add exactly the annex* (01, "What one event adds"; 003, 4.3.1): whatever records are taken, in whatever state, each cell
 -- grows by the annex's sum over the accepted events that count in it. No soundness is asked: an unsound ledger refuses every record. Assumes nothing.
-use Prim.Native.Nat.{ℕ, _+_, _*_, _<_}
+use Prim.Native.Nat.{ℕ, _+_, _<_}
 use mathlib.Core.Path.{_≡_, refl, sym, ap, _∙_}
 use mathlib.Core.List.{List, [], _∷_, map}
 use mathlib.Core.Bool.{Bool, true, false, _&&_, not, cond, true≢false}

@@ -1,14 +1,13 @@
 -- "An accepted book is one that, taken from an empty ledger and an all-zero map, ends exactly at a record's end with every record accepted"
 -- (01, "Bytes on the wire"), and the accepted events of any reading, with the annex's sums over them (003, 4.3.1).
-use Prim.Native.Nat.{ℕ, _+_}
+use Prim.Native.Nat.{ℕ}
 use mathlib.Core.Path.{_≡_}
 use mathlib.Core.List.{List, [], _∷_, map}
-use mathlib.Core.Bool.{Bool, true, false, _&&_, not, cond}
-use lib.ListN.{length, replicate}
+use mathlib.Core.Bool.{false, _&&_, not, cond}
+use lib.ListN.{replicate}
 use lib.Dec.{eqb}
 use Rattle.base.specs.Lists.{sum, keep}
 use Rattle.wire.specs.Frame.{kindOf}
-use Rattle.wire.specs.Cut.{recordsOf}
 use Rattle.codes.specs.Codes.{rowOf}
 use Rattle.annex.specs.Annex.{Event, simple, stepped, shortEvent}
 use Rattle.annex.specs.Figure.{Figure, given}

@@ -1,16 +1,15 @@
 -- What soundness bounds (02, K1: what is not "1 a table past its bounds"), said in numbers: the tests of the period and of a row are those numbers'
 -- tests, and a table is sound exactly where its period and each row pass. Assumes nothing.
-use Prim.Native.Nat.{ℕ, zero, suc, _*_, _<_, _≤_}
-use mathlib.Core.Path.{_≡_, refl, sym, ap, _∙_}
+use Prim.Native.Nat.{ℕ, zero, suc, _<_, _≤_}
+use mathlib.Core.Path.{_≡_, refl, sym, _∙_}
 use mathlib.Core.Logic.{_↔_, _⊎_, inl, inr}
 use mathlib.Core.List.{List, [], _∷_}
-use mathlib.Core.Bool.{Bool, true, false, _&&_, _||_, or-true, true≢false}
-use lib.Dec.{leb, ltb, eqb}
+use mathlib.Core.Bool.{true, false, true≢false}
+use lib.Dec.{leb}
 use native.Mathlib.Omega.{arith}
-use borrow.Author.Tests.{leb-true, leb-false, le-leb, le-ltb, ltb-false, eqb-true, eq-eqb}
+use borrow.Author.Tests.{leb-true, leb-false, le-leb}
 use Rattle.base.specs.Lists.{every}
-use Rattle.base.proofs.TestLaws.{Tested, holds, fails, test, and-left, and-right, and-both, or-other}
-use Rattle.base.proofs.ChainLaws.{each-holds}
+use Rattle.base.proofs.TestLaws.{Tested, holds, fails, test, and-left, and-right, and-both}
 use Rattle.row.specs.declared.Row.{Row}
 use Rattle.table.specs.declared.Table.{Table}
 use Rattle.row.specs.Row.{rowWithin, RowSound}

@@ -9,20 +9,18 @@ use mathlib.Core.Bool.{Bool, true, false, not, _||_}
 use lib.ListN.{length}
 use lib.Dec.{ltb}
 use native.Mathlib.Omega.{arith}
-use borrow.Author.Tests.{eq-eqb, eqb-true, leb-false, lt-leb, ltb-false, le-ltb, not-false, not-true}
+use borrow.Author.Tests.{eq-eqb, eqb-true, leb-false, lt-leb, ltb-false, le-ltb, not-false}
 use Rattle.base.specs.First.{NoRule, Clear, Foremost}
 use Rattle.base.specs.Lists.{listed}
 use Rattle.base.proofs.FirstLaws.{exactly-then, clear-at, first-listed}
 use Rattle.base.proofs.TestLaws.{Tested, holds, fails, test, or-left, or-right, or-both}
 use Rattle.wire.specs.Frame.{framed, kindOf}
-use Rattle.fields.specs.Fields.{sheetIn}
-use Rattle.fields.specs.Tests.{inRange}
 use Rattle.elements.specs.Elements.{elementListed}
 use Rattle.table.specs.declared.Table.{Table}
 use Rattle.table.specs.declared.Filed.{Filed}
 use Rattle.table.specs.Table.{periodWithin, beginOf, soundTable, fileBegun}
 use Rattle.filing.specs.Fields.{codeIn, startIn, endIn, unitIn}
-use Rattle.table.specs.Rules.{rowNamed, unframed, kindNotTaken, lengthWrong, outOfPlace, sheetOutOfRange, notListed, timeWrong, codeFull, rulesAt, rules, answerOf}
+use Rattle.table.specs.Rules.{rowNamed, rulesAt, rules, answerOf}
 use Rattle.table.specs.Right.{SheetRight, OutageRight, StockRight}
 use Rattle.table.proofs.BoundLaws.{period-within, period-outside}
 use Rattle.table.proofs.AnswerLaws.{rules-rise, accepted-clear, clear-accepted, begins, begins-none, file-begins, file-refused}

@@ -1,7 +1,7 @@
 -- 02, K1: what each refusal number of a record of a yearly file stands for, one by one, of the record's bytes s, read as kind `kind`, at a table.
 use Prim.Native.Nat.{ℕ}
 use mathlib.Core.List.{List, [], _∷_}
-use mathlib.Core.Bool.{Bool, true, false, _&&_, _||_, not, cond}
+use mathlib.Core.Bool.{Bool, true, false, _||_, not, cond}
 use lib.ListN.{length}
 use lib.Dec.{leb, ltb, eqb}
 use Rattle.base.specs.First.{Rule, first}
@@ -28,7 +28,7 @@ rowNamed t s = rowOr (t .rows) (rowOf (codeIn s))
 abbrev pub unframed : List ℕ → Bool
 unframed s = not (framed s)
 
--- 3: "kinds 1, 4, 5 are taken here"
+-- 3: kinds 1, 4, 5 are taken here
 abbrev pub kindNotTaken : ℕ → Bool
 kindNotTaken kind = not (byKind kind true true true)
 
@@ -36,7 +36,7 @@ kindNotTaken kind = not (byKind kind true true true)
 abbrev pub lengthWrong : ℕ → List ℕ → Bool
 lengthWrong kind s = byKind kind (not (eqb (length s) 18)) (not (eqb (length s) 14)) (not (eqb (length s) 11))
 
--- 5: "a record before its file's sheet, a second sheet in a file, a second stock of one code in the table"
+-- 5: a record before its file's sheet, a second sheet in a file, a second stock of one code in the table
 abbrev pub outOfPlace : ℕ → List ℕ → Table → Bool
 outOfPlace kind s t = byKind kind (t .seen) (not (t .seen)) (not (t .seen) || ltb 0 (rowNamed t s .stock))
 
@@ -67,10 +67,10 @@ rulesAt kind s t =
     (10, timeWrong kind s) ∷
     (15, codeFull kind s t) ∷ []
 
--- all of them, in the order of checking; 1: "a table past its bounds"
+-- all of them, in the order of checking; 1: a table past its bounds
 abbrev pub rules : Table → List ℕ → List Rule
 rules t s = (1, not (soundTable t)) ∷ (2, unframed s) ∷ rulesAt (kindOf s) s t
 
--- "the smallest that applies"
+-- the smallest that applies
 unfoldable pub answerOf : Table → List ℕ → ℕ
 answerOf t s = first (rules t s)

@@ -2,7 +2,7 @@
 -- sound, how it and a file are begun.
 use Prim.Native.Nat.{ℕ}
 use mathlib.Core.List.{List}
-use mathlib.Core.Bool.{Bool, true, false, _&&_, cond}
+use mathlib.Core.Bool.{Bool, false, _&&_, cond}
 use lib.ListN.{getD, replicate}
 use lib.Dec.{leb}
 use Rattle.base.specs.Lists.{every}
@@ -27,7 +27,7 @@ beginOf period = cond (periodWithin period) (record { answer = 0; table = begun 
 abbrev pub rowOr : List Row → ℕ → Row
 rowOr rows at = getD rows at noRow
 
--- not "1 a table past its bounds (period not 1 to 50, ..)"
+-- a table within its bounds: a period of 1 to 50, and every row within its own
 unfoldable pub soundTable : Table → Bool
 soundTable t = periodWithin (t .period) && every rowWithin (t .rows)
 
@@ -35,6 +35,6 @@ soundTable t = periodWithin (t .period) && every rowWithin (t .rows)
 abbrev pub marked : Bool → Table → Table
 marked seen t = record { period = t .period; seen = seen; rows = t .rows }
 
--- "A file is begun by a call of its own, which clears the sheet-seen mark"
+-- A file is begun by a call of its own, which clears the sheet-seen mark
 unfoldable pub fileBegun : Table → Filed
 fileBegun t = cond (soundTable t) (record { answer = 0; table = marked false t }) (record { answer = 1; table = t })

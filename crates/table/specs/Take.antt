@@ -1,4 +1,4 @@
--- What an accepted record does to a table; "a refusal hands the table back as it was" (02, K1).
+-- What an accepted record does to a table; a refusal hands the table back as it was (02, K1).
 use Prim.Native.Nat.{ℕ, _-_}
 use mathlib.Core.List.{List}
 use mathlib.Core.Bool.{true, cond}
@@ -10,7 +10,7 @@ use Rattle.row.specs.declared.Row.{Row}
 use Rattle.row.specs.Row.{withOutage, withStock}
 use Rattle.table.specs.declared.Table.{Table}
 use Rattle.table.specs.declared.Filed.{Filed}
-use Rattle.table.specs.Table.{rowOr, marked}
+use Rattle.table.specs.Table.{marked}
 use Rattle.filing.specs.Fields.{codeIn, startIn, endIn, unitIn, amountIn}
 use Rattle.table.specs.Rules.{rowNamed, answerOf}
 

@@ -1,14 +1,13 @@
 -- Sums over records that are put one after the other or in another order, and the mark of a stock that is told at most once: it is set exactly where
 -- a stock stands among the records, for each stock told is at least 1. Assumes nothing.
 use Prim.Native.Nat.{ℕ, _+_, _≤_}
-use mathlib.Core.Path.{_≡_, refl, sym, ap, _∙_}
-use mathlib.Core.List.{List, [], _∷_, _++_}
+use mathlib.Core.Path.{_≡_, sym, ap, _∙_}
+use mathlib.Core.List.{List, [], _∷_}
 use mathlib.Core.Bool.{Bool, true, false, cond}
 use lib.Dec.{ltb}
 use native.Mathlib.Nat.{add-zero}
 use native.Mathlib.Omega.{arith}
 use borrow.Author.Tests.{lt-ltb}
-use Rattle.base.specs.Perm.{Perm, done, keep, swap, then}
 use Rattle.row.specs.declared.Row.{Row}
 use Rattle.filing.specs.Fields.{unitIn}
 use Rattle.tallies.specs.Tally.{isStock, stocksOf, stockOf, total}

@@ -1,4 +1,4 @@
--- "Two tables of one period whose files share no stocked code and whose outages per code sum to at most 65,535 join into the table with the sums" (K1).
+-- Two tables of one period whose files share no stocked code and whose outages per code sum to at most 65,535 join into the table with the sums (K1).
 use Prim.Native.Nat.{ℕ, _+_, _<_, _≤_}
 use mathlib.Core.Path.{_≡_}
 use mathlib.Core.Logic.{_⊎_}

@@ -1,5 +1,5 @@
--- "For files whose every record is accepted: feeding them in any order, and the records after each sheet in any order, is accepted too and gives the
--- same table" (K1).
+-- For files whose every record is accepted: feeding them in any order, and the records after each sheet in any order, is accepted too and gives the
+-- same table (K1).
 use Prim.Native.Nat.{ℕ}
 use mathlib.Core.Path.{_≡_}
 use mathlib.Core.List.{List, [], _∷_, map}

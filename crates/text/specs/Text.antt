@@ -1,7 +1,7 @@
 -- Text as bytes, and numbers in decimal digits.
 use Prim.Native.Nat.{ℕ, zero, suc, _+_, _-_, _/_, _%_}
 use mathlib.Core.List.{List, [], _∷_, _++_}
-use mathlib.Core.Bool.{Bool, cond}
+use mathlib.Core.Bool.{cond}
 use lib.ListN.{length, set, replicate}
 use lib.Dec.{ltb, leb}
 use Rattle.text.specs.declared.Text.{Text}

@@ -1,12 +1,10 @@
 -- A line of bytes put together one byte after the other: those taken, and zeros past them. Assumes nothing.
 use Prim.Native.Nat.{ℕ, suc, _+_, _-_, _<_, _≤_}
-use mathlib.Core.Path.{_≡_, refl, sym, ap, _∙_}
+use mathlib.Core.Path.{_≡_, sym, ap, _∙_}
 use mathlib.Core.List.{List, [], _∷_, _++_}
 use lib.ListN.{length, take, getD, set, replicate}
 use lib.Seq.{set-append-seam, append-snoc, take-suc, take-all, length-take-le}
 use native.Mathlib.Omega.{arith}
-use native.Mathlib.Numerals.{add-one}
-use Rattle.shape.specs.declared.Entry.{Entry}
 use Rattle.shape.specs.Shape.{entryOf}
 use Rattle.unpack.specs.Unpack.{bytesEntry}
 

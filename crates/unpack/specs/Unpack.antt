@@ -1,12 +1,11 @@
 -- The numbers of a record by 01's table ("Bytes on the wire"), in the order of the line that stands for it.
 use Prim.Native.Nat.{ℕ, zero, suc, _+_, _-_, _*_}
 use mathlib.Core.List.{List, [], _∷_}
-use mathlib.Core.Bool.{Bool, true, false, _&&_, not, cond}
+use mathlib.Core.Bool.{not, cond}
 use lib.Dec.{eqb, ltb, leb}
 use lib.ListN.{length, take}
 use Rattle.wire.specs.Numbers.{byteAt, le16, le32}
 use Rattle.wire.specs.Frame.{framed, kindOf}
-use Rattle.fields.specs.declared.Sheet.{Sheet}
 use Rattle.fields.specs.Fields.{sheetIn, stepCount}
 use Rattle.fields.specs.Tests.{inRange}
 use Rattle.shape.specs.declared.Entry.{Entry}

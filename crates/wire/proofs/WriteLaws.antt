@@ -1,12 +1,12 @@
 -- A number's bytes read back are the number, where it fits its bytes; and the bytes of a number that was read are those that it was read from. Assumes
 -- nothing.
 use Prim.Native.Nat.{ℕ, _+_, _*_, _/_, _%_, _<_}
-use mathlib.Core.Path.{_≡_, sym, ap, _∙_}
+use mathlib.Core.Path.{_≡_, ap, _∙_}
 use mathlib.Core.List.{List, [], _∷_, _++_}
 use lib.ListN.{length, getD}
-use lib.Seq.{getD-append-seam, getD-append-add}
+use lib.Seq.{getD-append-add}
 use native.Mathlib.Omega.{arith}
-use native.Mathlib.Nat.{add-assoc, add-zero}
+use native.Mathlib.Nat.{add-assoc}
 use Rattle.wire.specs.Numbers.{byteAt, le16, le32, le2, le4}
 
 -- a number from its bytes, by the place of each

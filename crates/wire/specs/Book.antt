@@ -2,7 +2,7 @@
 -- the end, or only 1 to 3 bytes left)" (01, "Bytes on the wire").
 use Prim.Native.Nat.{ℕ, _+_, _-_}
 use mathlib.Core.List.{List}
-use mathlib.Core.Bool.{Bool, cond}
+use mathlib.Core.Bool.{cond}
 use lib.ListN.{length, take, drop}
 use lib.Dec.{ltb, leb}
 use Rattle.wire.specs.Numbers.{le16}

@@ -15,7 +15,7 @@ slotBytes = 72
 abbrev pub headerWord : ℕ
 headerWord = version * 2 ^ 32 + ledgerWords * 2 ^ 16 + slotBytes
 
--- 254: "the caller was built with another header"; else the answer
+-- 254: the caller was built with another header; else the answer
 abbrev pub headed : ℕ → ℕ → ℕ
 headed header answer = cond (eqb header headerWord) answer 254
 
@@ -31,6 +31,6 @@ otherSize = 251
 abbrev pub answeredInto : ℕ → Bool → Bool → ℕ → ℕ
 answeredInto header sized fits answer = headed header (cond sized (cond fits answer 1) otherSize)
 
--- "On a refusal no lent memory is changed"
+-- On a refusal no lent memory is changed
 abbrev pub ifAccepted : {X : Type 0} → ℕ → X → X → X
 ifAccepted answer next same = cond (eqb answer 0) next same

@@ -53,7 +53,7 @@ taken s bytes lv =
     cellOf (takeRecord (afterSheet s) bytes .ledger) 0 lv .customers .0 ∷
     cellOf (takeRecord (afterSheet s) bytes .ledger) 0 lv .halves .0 ∷ []
 
--- "P7, P8 and P13 under N = 450000, 1000, 0"
+-- P7, P8 and P13 under N = 450000, 1000, 0
 abbrev pub sheet105 : List ℕ
 sheet105 = sheet 2009 (three 450000 1000 0)
 

@@ -1,7 +1,7 @@
 -- How the loop over a file's records goes, by the run of records' laws; and a sound table stays sound as a file is read. Assumes nothing.
-use Prim.Native.Nat.{ℕ, _+_, _-_, _<_, _≤_}
+use Prim.Native.Nat.{ℕ, _+_, _≤_}
 use mathlib.Core.Path.{_≡_, refl, sym, ap, _∙_, subst⁻¹}
-use mathlib.Core.List.{List, [], _∷_}
+use mathlib.Core.List.{List}
 use mathlib.Core.Bool.{Bool, true, false, cond}
 use lib.ListN.{length}
 use lib.Dec.{eqb}
@@ -10,9 +10,8 @@ use native.Mathlib.Nat.{add-zero}
 use borrow.Author.Tests.{eq-eqb, ne-eqb}
 use Rattle.base.proofs.TestLaws.{Tested, holds, fails, test}
 use Rattle.wire.specs.declared.Stand.{Stand}
-use Rattle.wire.specs.Book.{placeAt, standOf, whichAt, recordAt, afterAt, partOf}
-use Rattle.wire.specs.Cut.{recordsOf, recordsFrom, stopFrom}
-use Rattle.wire.proofs.CutLaws.{records-is, passed, halted, starts-there, few-records}
+use Rattle.wire.specs.Book.{placeAt, standOf, partOf}
+use Rattle.wire.specs.Cut.{recordsOf}
 use Rattle.records.specs.Records.{oneIfRefused, isBroken}
 use Rattle.records.proofs.TakeLaws as all
 use Rattle.records.proofs.TakeLaws.{one-at-most}

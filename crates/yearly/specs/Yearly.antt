@@ -1,9 +1,9 @@
--- "A yearly element file, framed like the book and starting with a year sheet" (02, K1), taken record by record; "a broken length (2) ends that
--- file's reading".
+-- "A yearly element file, framed like the book and starting with a year sheet" (02, K1), taken record by record; a broken length (2) ends that
+-- file's reading.
 use Prim.Native.Nat.{ℕ, _+_}
 use mathlib.Core.Path.{_≡_}
 use mathlib.Core.List.{List, [], _∷_}
-use mathlib.Core.Bool.{true, false, cond}
+use mathlib.Core.Bool.{false, cond}
 use Rattle.wire.specs.Cut.{recordsOf, stopFrom, endsBy}
 use Rattle.records.specs.Records as records
 use Rattle.records.specs.Records.{oneIfRefused, isBroken}

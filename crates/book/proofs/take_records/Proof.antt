@@ -4,7 +4,6 @@ use Prim.Native.Nat.{ℕ, _+_, _-_, _≤_}
 use mathlib.Core.Path.{_≡_, sym, ap, _∙_, subst⁻¹, subst₃}
 use mathlib.Core.List.{List}
 use lib.ListN.{length, set, length-map}
-use lib.Dec.{eqb}
 use native.Mathlib.Omega.{arith}
 use Rattle.wire.specs.Book.{partOf}
 use Rattle.record.specs.Verdict.{verdictOf}
@@ -12,7 +11,6 @@ use Rattle.ledger.specs.Ledger.{added}
 use Rattle.ledger.specs.Inside.{Fits}
 use Rattle.ledger.proofs.LedgerLaws.{sound-spare, sound-short, fair-small}
 use Rattle.ledger.proofs.SoundLaws.{verdict-fits}
-use Rattle.records.specs.Records.{oneIfRefused}
 use Rattle.records.proofs.TakeLaws.{one-at-most}
 use Rattle.records.proofs.RunLaws.{going-nearer, going-room}
 use Rattle.book.specs.Book.{starting, takeRecord}

@@ -6,7 +6,6 @@ use borrow.Author.Tests.{leb-true}
 use Rattle.base.proofs.TestLaws.{and-left, and-right}
 use Rattle.codes.specs.Codes.{rowOf}
 use Rattle.codes.proofs.CodeLaws.{row-of-fault, row-of-planned, row-of-none}
-use borrow.Author.Needs.{needs}
 use Rattle.codes.proofs.row_of.Statement.{statement}
 use Rattle.codes.proofs.row_of.Tie as tie
 

@@ -1,5 +1,4 @@
 -- Where the line has ended no item follows, and elsewhere the second test of the definition decides. Assumes nothing.
-use Prim.Native.Nat.{ℕ}
 use mathlib.Core.Path.{sym, ap, _∙_}
 use lib.Dec.{ltb}
 use borrow.Author.Needs.{needs}

@@ -1,6 +1,6 @@
 -- At each turn the items read are those passed and those of what is left of the line, with as many turns as there are places left. Assumes nothing.
 use Prim.Native.Nat.{ℕ, suc, _+_, _-_, _<_, _≤_}
-use mathlib.Core.Path.{_≡_, refl, sym, ap, _∙_}
+use mathlib.Core.Path.{_≡_, sym, ap, _∙_}
 use mathlib.Core.List.{List, []}
 use lib.ListN.{length, drop}
 use native.Mathlib.Omega.{arith}

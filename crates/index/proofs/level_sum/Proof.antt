@@ -6,7 +6,6 @@ use native.Mathlib.Omega.{arith}
 use native.Mathlib.Numerals.{add-one}
 use Rattle.codes.specs.Codes as codes
 use Rattle.index.specs.Sums.{plusCell, sumTo, cellAt, heldOr, heldCell, levelSum}
-use Rattle.index.specs.Inside.{Fit}
 use Rattle.index.proofs.SumLaws.{within-fit, sum-within, one-within, held-spare}
 use borrow.Author.Needs.{needs}
 use Rattle.index.proofs.level_sum.Statement.{statement}

@@ -1,7 +1,6 @@
 -- The row's cells are three, and each is tested. Assumes nothing.
 use mathlib.Core.Path.{_≡_, ap, _∙_, sym}
-use mathlib.Core.Bool.{Bool, true, false, _&&_, and-true, and-assoc}
-use mathlib.Core.List.{[], _∷_}
+use mathlib.Core.Bool.{_&&_, and-true, and-assoc}
 use lib.ListN.{length, getD}
 use Rattle.base.specs.Lists.{every}
 use Rattle.base.proofs.ListLaws.{three}

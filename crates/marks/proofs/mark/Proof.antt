@@ -1,12 +1,11 @@
 -- Number 0, a byte past the map's end and a number that is marked leave the map, as `markedWith` does there; else the bit is unset, so that adding it
 -- to its byte neither wraps nor carries, and sets this bit alone.
-use Prim.Native.Nat.{_+_, _/_, _%_, _<_}
-use mathlib.Core.Path.{_≡_, ap, sym, _∙_}
-use mathlib.Core.Bool.{false}
+use Prim.Native.Nat.{_+_, _/_, _<_}
+use mathlib.Core.Path.{ap, sym, _∙_}
 use lib.ListN.{getD, set}
 use native.Mathlib.Omega.{arith}
 use borrow.Author.Needs.{needs}
-use Rattle.marks.specs.Marks.{marked, markedWith}
+use Rattle.marks.specs.Marks.{markedWith}
 use Rattle.marks.proofs.MarkLaws.{markedWith-zero, markedWith-past, markedWith-again, markedWith-adds, marking-fits}
 use Rattle.marks.proofs.mark.Statement.{statement}
 use Rattle.marks.proofs.mark.Tie as tie

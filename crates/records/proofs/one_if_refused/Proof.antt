@@ -1,7 +1,6 @@
 -- The two cases of the test. Assumes nothing.
 use mathlib.Core.Path.{sym}
 use borrow.Author.Tests.{eq-eqb, ne-eqb}
-use borrow.Author.Needs.{needs}
 use Rattle.records.proofs.one_if_refused.Statement.{statement}
 use Rattle.records.proofs.one_if_refused.Tie as tie
 

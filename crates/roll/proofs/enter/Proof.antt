@@ -1,7 +1,6 @@
 -- A free slot is sound, and any other is sound just where it is as an open one. Assumes nothing.
-use mathlib.Core.Path.{_≡_, refl, sym, _∙_, ap}
+use mathlib.Core.Path.{sym, _∙_, ap}
 use mathlib.Core.Bool.{_&&_, and-true}
-use Rattle.slot.specs.Sound.{slotSound}
 use Rattle.slot.proofs.SoundLaws.{free-decides, open-decides}
 use Rattle.roll.specs.Inside.{rolledSlot}
 use borrow.Author.Needs.{needs}

@@ -1,5 +1,5 @@
 -- The number is written where the numbers reach, and past their end nothing is. Assumes nothing.
-use mathlib.Core.Path.{_≡_, sym}
+use mathlib.Core.Path.{sym}
 use lib.Seq.{set-out}
 use borrow.Author.Needs.{needs}
 use Rattle.roll.proofs.note.Statement.{statement}

@@ -1,11 +1,10 @@
 -- Where two digits stand their bytes are read, and a digit's number is its byte less 0's. Assumes nothing.
 use Prim.Native.Nat.{ℕ, _+_, _-_}
-use mathlib.Core.Path.{_≡_, sym, ap, _∙_}
-use mathlib.Core.Bool.{true, false}
+use mathlib.Core.Path.{_≡_, ap, _∙_}
 use borrow.Author.Needs.{needs}
 use borrow.Author.Tests.{not-true, not-false}
 use Rattle.wire.specs.Numbers.{byteAt}
-use Rattle.scan.specs.Scan.{twoStand, twoAt}
+use Rattle.scan.specs.Scan.{twoAt}
 use Rattle.scan.proofs.ScanLaws.{none-far}
 use Rattle.scan.proofs.two_at.Statement.{statement}
 use Rattle.scan.proofs.two_at.Tie as tie

@@ -1,5 +1,4 @@
 -- Its tests are those of the definition, in the same order. Assumes nothing.
-use borrow.Author.Needs.{needs}
 use borrow.Author.Tests.{eq-eqb, ne-eqb}
 use Rattle.shape.specs.Shape.{mostOf}
 use Rattle.shape.proofs.most_of.Statement.{statement}

@@ -1,5 +1,5 @@
 -- Short or not, by the test that `isShort` is: the two laws of an event's verdict. Assumes nothing.
-use mathlib.Core.Path.{_≡_, refl, sym, ap, _∙_}
+use mathlib.Core.Path.{_≡_, sym, _∙_}
 use mathlib.Core.Bool.{true, false}
 use Rattle.annex.specs.Times.{isShort}
 use Rattle.verdict.proofs.VerdictLaws.{event-short, event-counted}

@@ -8,7 +8,7 @@ use Prim.Native.Nat.{ℕ, _<_, _^_}
 use mathlib.Core.List.{List, [], _∷_}
 use lib.Dec.{T as Holds}
 use lib.ListN.{length}
-use mir.Syntax.{Ty, named, erased, imm, w8, w64, tyInt, tyRef}
+use mir.Syntax.{named, erased, imm, w8, w64, tyInt, tyRef}
 use mir.Val.{Val, WT, hasTy, vint}
 use base.Logic.{SProp, ent, sep, emp, via, fst∗, snd∗, exE, id⊢}
 use base.Fml.{Lft, Share, Fml, ftrue, fat, flft}

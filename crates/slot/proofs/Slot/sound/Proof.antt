@@ -1,5 +1,5 @@
 -- One of two tests, the second only where the first fails. Assumes nothing.
-use mathlib.Core.Path.{_≡_, sym, _∙_, ap}
+use mathlib.Core.Path.{sym, _∙_, ap}
 use mathlib.Core.Bool.{_||_}
 use Rattle.slot.specs.Sound.{openSound, slotSound}
 use borrow.Author.Needs.{needs}

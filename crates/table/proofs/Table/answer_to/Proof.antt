@@ -1,7 +1,7 @@
 -- An unsound table is 1, an unframed record is 2; a framed one goes by its kind, and kinds other than 1, 4 and 5 are 3. Assumes nothing.
 use mathlib.Core.Path.{_≡_, sym, ap, _∙_}
 use mathlib.Core.Bool.{true, not}
-use borrow.Author.Tests.{not-true, not-false}
+use borrow.Author.Tests.{not-false}
 use Rattle.wire.specs.Frame.{framed, kindOf}
 use Rattle.elements.specs.Elements.{rowOf}
 use Rattle.table.specs.Table.{rowOr, soundTable}
