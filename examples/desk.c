@@ -1,6 +1,6 @@
 /* A day at the outage desk, from C: a year sheet, two outages that are opened, stepped and closed, and the year's indices.
  *
- *   cc -I include examples/desk.c target/staticlib/libbridge.a -o desk && ./desk
+ *   cc -I include examples/desk.c target/staticlib/libtemelyak.a -o desk && ./desk
  *
  * examples/desk.stdout has what it prints.
  */

@@ -6,7 +6,7 @@
  * twice; a map from before an open lets its number be used again, so that a late step can reach another outage. No call can tell.
  * What is lent to one call does not overlap, and a pointer is to as many elements as the number after it says.
  *
- * Link with libbridge.a, x86-64, and a C library (for memcpy and memset). C99; C++ too.
+ * Link with libtemelyak.a, x86-64, and a C library (for memcpy and memset). C99; C++ too.
  */
 #ifndef TEMELYAK_H
 #define TEMELYAK_H

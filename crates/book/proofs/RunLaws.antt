@@ -15,8 +15,8 @@ use Rattle.records.proofs.TakeLaws as all
 use Rattle.records.proofs.TakeLaws.{one-at-most}
 use Rattle.records.proofs.RunLaws as run
 use Rattle.codes.specs.Codes.{rows}
-use Rattle.marks.specs.Marks.{markedWith}
-use Rattle.marks.proofs.MarkLaws.{markedWith-size}
+use Rattle.used_numbers.specs.Marks.{markedWith}
+use Rattle.used_numbers.proofs.MarkLaws.{markedWith-size}
 use Rattle.verdict.specs.declared.Verdict.{Verdict}
 use Rattle.record.specs.Verdict.{verdictOf}
 use Rattle.record.proofs.JudgeLaws.{verdict-answer}
@@ -29,7 +29,7 @@ use Rattle.ledger.proofs.CellLaws.{added-rows}
 use Rattle.ledger.proofs.LedgerLaws.{sound-kept}
 use Rattle.ledger.proofs.TakeLaws.{take-judged, answer-judged}
 use Rattle.ledger.proofs.SoundLaws.{verdict-fits}
-use Rattle.book.specs.Book.{State, starting, takeRecord, afterBook, runOf, readOf, mapRead}
+use Rattle.book.specs.Book.{BookState, starting, takeRecord, afterBook, passOf, readOf, mapRead}
 
 -- a sound ledger with a map of the right size is not refused 1
 pub sound-taken : (l : Ledger) (m : List ℕ) → soundLedger l ≡ true → length m ≡ 8192 → unsound l m ≡ false
@@ -52,13 +52,13 @@ record-judged l m r s u =
     λ i. record { ledger = t .0 i; map = t .1 i; refused = r + oneIfRefused (a i) }
 
 -- how the refused records are counted
-abbrev pub refusedIn : State → ℕ
+abbrev pub refusedIn : BookState → ℕ
 refusedIn st = st .refused
 
-abbrev pub answerIn : State → List ℕ → ℕ
+abbrev pub answerIn : BookState → List ℕ → ℕ
 answerIn st s = answerOf (st .ledger) (st .map) s
 
-pub refused-counted : (st : State) (s : List ℕ) → refusedIn (takeRecord st s) ≡ refusedIn st + oneIfRefused (answerIn st s)
+pub refused-counted : (st : BookState) (s : List ℕ) → refusedIn (takeRecord st s) ≡ refusedIn st + oneIfRefused (answerIn st s)
 unfolding takeRecord
 refused-counted st s = refl
 
@@ -108,11 +108,11 @@ module _ (l₀ : Ledger) (m₀ book : List ℕ) where
     -- where no record stands the run is over
     pub going-ends :
         (stand .which ≡ 0 → ⊥) →
-        (record { ledger = l; refused = r; stop = stand .start; which = stand .which } ≡ runOf l₀ m₀ book) × (m ≡ afterBook l₀ m₀ book .map)
+        (record { ledger = l; refused = r; stop = stand .start; which = stand .which } ≡ passOf l₀ m₀ book) × (m ≡ afterBook l₀ m₀ book .map)
     going-ends over =
         let e = run.going-ends takeRecord refusedIn (starting l₀ m₀) book _ stand (g .on) over in (
           (λ i. record { ledger = e .0 i .ledger; refused = e .0 i .refused; stop = e .1 i; which = e .2 i }),
-          ap (λ (st : State). st .map) (e .0),
+          ap (λ (st : BookState). st .map) (e .0),
         )
 
 -- the two ways that a whole book goes

@@ -6,11 +6,11 @@ use mathlib.Core.Bool.{true}
 use Rattle.records.proofs.TakeLaws.{all-keep}
 use Rattle.ledger.specs.Sound.{soundLedger}
 use Rattle.ledger.proofs.SoundLaws.{sound-stays-sound}
-use Rattle.book.specs.Book.{State, takeRecord, takeAll}
+use Rattle.book.specs.Book.{BookState, takeRecord, takeAll}
 
-pub sound-record : (st : State) (s : List ℕ) → soundLedger (st .ledger) ≡ true → soundLedger (takeRecord st s .ledger) ≡ true
+pub sound-record : (st : BookState) (s : List ℕ) → soundLedger (st .ledger) ≡ true → soundLedger (takeRecord st s .ledger) ≡ true
 unfolding takeRecord
 sound-record st s e = sound-stays-sound (st .ledger) (st .map) s e
 
-pub sound-run : (st : State) (ss : List (List ℕ)) → soundLedger (st .ledger) ≡ true → soundLedger (takeAll st ss .ledger) ≡ true
-sound-run = all-keep takeRecord (λ (st : State). soundLedger (st .ledger) ≡ true) sound-record
+pub sound-run : (st : BookState) (ss : List (List ℕ)) → soundLedger (st .ledger) ≡ true → soundLedger (takeAll st ss .ledger) ≡ true
+sound-run = all-keep takeRecord (λ (st : BookState). soundLedger (st .ledger) ≡ true) sound-record

@@ -8,20 +8,20 @@ use Rattle.records.specs.Records as records
 use Rattle.records.specs.Records.{oneIfRefused, isBroken}
 use Rattle.ledger.specs.declared.Ledger.{Ledger}
 use Rattle.ledger.specs.Take.{unsound, answerOf, ledgerAfter, mapAfter}
-use Rattle.book.specs.declared.Run.{Run}
+use Rattle.book.specs.declared.Pass.{Pass}
 use Rattle.book.specs.declared.Read.{Read}
 
 -- a ledger with its map, and the records refused so far
-pub record State : Type 0 where
+pub record BookState : Type 0 where
   pub ledger : Ledger
   pub map : List ℕ
   pub refused : ℕ
 
-abbrev pub starting : Ledger → List ℕ → State
+abbrev pub starting : Ledger → List ℕ → BookState
 starting l m = record { ledger = l; map = m; refused = 0 }
 
 -- one record, as the ledger's `take` takes it
-unfoldable pub takeRecord : State → List ℕ → State
+unfoldable pub takeRecord : BookState → List ℕ → BookState
 takeRecord st s =
     record {
       ledger = ledgerAfter (st .ledger) (st .map) s;
@@ -29,16 +29,16 @@ takeRecord st s =
       refused = st .refused + oneIfRefused (answerOf (st .ledger) (st .map) s);
     }
 
-abbrev pub takeAll : State → List (List ℕ) → State
+abbrev pub takeAll : BookState → List (List ℕ) → BookState
 takeAll = records.takeAll takeRecord
 
 -- the state after the whole records of a book
-abbrev pub afterBook : Ledger → List ℕ → List ℕ → State
+abbrev pub afterBook : Ledger → List ℕ → List ℕ → BookState
 afterBook l m book = takeAll (starting l m) (recordsOf book)
 
 -- the same, with where and how the reading stopped
-abbrev pub runOf : Ledger → List ℕ → List ℕ → Run
-runOf l m book =
+abbrev pub passOf : Ledger → List ℕ → List ℕ → Pass
+passOf l m book =
     record {
       ledger = afterBook l m book .ledger;
       refused = afterBook l m book .refused;

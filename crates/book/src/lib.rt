@@ -2,14 +2,14 @@
 ghost use mathlib.Core.Path.{_≡_};
 ghost use mathlib.Core.Bool.{true};
 ghost use lib.ListN.{length};
-ghost use Rattle.marks.specs.Marks.{mapSize};
+ghost use Rattle.used_numbers.specs.Marks.{mapSize};
 ghost use Rattle.ledger.specs.Sound.{soundLedger};
-ghost use Rattle.book.specs.Book.{runOf, afterBook, readOf, mapRead};
+ghost use Rattle.book.specs.Book.{passOf, afterBook, readOf, mapRead};
 use ledger::Ledger;
 
 // What taking the records of a book comes to: the ledger after them, the refused ones, and where and how the reading stopped (1 at the end, 2 at
 // a broken length).
-pub struct Run {
+pub struct Pass {
     pub ledger: Ledger,
     pub refused: u64,
     pub stop: usize,
@@ -27,9 +27,9 @@ pub struct Read {
 
 // The records of a book, one after the other. An accepted record keeps a sound ledger sound, so soundness is not looked at again; the cells are
 // written where they stand.
-pub fn take_records(ledger: Ledger, map: &mut [u8], book: &[u8]) -> Run
+pub fn take_records(ledger: Ledger, map: &mut [u8], book: &[u8]) -> Pass
     requires { ⌜ (soundLedger ledger ≡ true) × (length (now map) ≡ mapSize) ⌝ }
-    ensures { λ r. ⌜ (r ≡ runOf ledger (now (map .entry)) (now (book .entry))) × (now (map .exit) ≡ afterBook ledger (now (map .entry)) (now (book .entry)) .map) ⌝ }
+    ensures { λ r. ⌜ (r ≡ passOf ledger (now (map .entry)) (now (book .entry))) × (now (map .exit) ≡ afterBook ledger (now (map .entry)) (now (book .entry)) .map) ⌝ }
 {
     let mut l = ledger;
     let mut refused: u64 = 0;
@@ -39,7 +39,7 @@ pub fn take_records(ledger: Ledger, map: &mut [u8], book: &[u8]) -> Run
         let end = stand.end;
         let sheet = l.sheet;
         let v = record::judge(wire::part(book, start, end), sheet, &map[..], l.events);
-        marks::mark(map, v.number);
+        used_numbers::mark(map, v.number);
         let figures = v.figures;
         let next = v.sheet;
         let at = v.row as usize;
@@ -50,7 +50,7 @@ pub fn take_records(ledger: Ledger, map: &mut [u8], book: &[u8]) -> Run
         refused += records::one_if_refused(v.answer);
         stand = wire::stand_at(book, end);
     }
-    Run {
+    Pass {
         ledger: l,
         refused,
         stop: stand.start,

@@ -3,7 +3,7 @@ use ledger::Ledger;
 use libc::STDERR_FILENO;
 use libc::STDIN_FILENO;
 use libc::STDOUT_FILENO;
-use shape::Entry;
+use text_items::Entry;
 
 // More pieces than any file has: 2^40. Past them the reading has failed.
 const MOST_PIECES: u64 = 1099511627776;
@@ -156,7 +156,7 @@ fn say_answer(out: &mut [u8], page: Page, answer: u8, short: bool) -> Page {
 
 fn say_line(out: &mut [u8], page: Page, entry: Entry, year: u16) -> Page {
     let begun = with_room(&out[..], page);
-    let end = line::write_line(out, begun.at, entry, year);
+    let end = text_write::write_line(out, begun.at, entry, year);
     let at = pen::put(out, end, 10);
     Page {
         at,
@@ -185,7 +185,7 @@ fn say_bytes(out: &mut [u8], begun: Page, bytes: &[u8]) -> Page {
 
 fn say_record(out: &mut [u8], page: Page, record: &[u8], year: u16) -> Page {
     let entry = unpack::unpack(record);
-    if entry.kind == shape::BLANK {
+    if entry.kind == text_items::BLANK {
         return say_bytes(out, page, record);
     }
     say_line(out, page, entry, year)

@@ -20,48 +20,48 @@ fn tell(words: &[u8]) {
 
 // What was expected of a line and of its numbers.
 fn tell_number(answer: u8) {
-    if answer == scan::WORD {
+    if answer == text_scan::WORD {
         tell(b"expected sheet, simple, stepped or hex at the line's beginning");
     }
-    if answer == scan::NUMBER {
+    if answer == text_scan::NUMBER {
         tell(b"expected a whole number in decimal digits");
     }
-    if answer == scan::AT_MOST_255 {
+    if answer == text_scan::AT_MOST_255 {
         tell(b"expected a number of at most 255");
     }
-    if answer == scan::AT_MOST_65535 {
+    if answer == text_scan::AT_MOST_65535 {
         tell(b"expected a number of at most 65535");
     }
-    if answer == scan::AT_MOST_4294967295 {
+    if answer == text_scan::AT_MOST_4294967295 {
         tell(b"expected a number of at most 4294967295");
     }
-    if answer == scan::TWO_DIGITS {
+    if answer == text_scan::TWO_DIGITS {
         tell(b"expected two hexadecimal digits");
     }
 }
 
 // What was expected of a time, and of how many numbers there are.
 fn tell_place(answer: u8) {
-    if answer == scan::TIME {
+    if answer == text_scan::TIME {
         tell(b"expected a time: minutes from 1 January 00:00, or MM-DD hh:mm");
     }
-    if answer == scan::SHEET_BEFORE {
+    if answer == text_scan::SHEET_BEFORE {
         tell(
             b"expected a sheet that is in range on a line before a time as MM-DD hh:mm; minutes can be written without one",
         );
     }
-    if answer == scan::DAY_OF_YEAR {
+    if answer == text_scan::DAY_OF_YEAR {
         tell(b"expected a day of the sheet's year, and a time from 00:00 to 23:59");
     }
-    if answer == scan::GAP {
+    if answer == text_scan::GAP {
         tell(b"expected a space, a tab, a comma, a semicolon or a bar");
     }
-    if answer == scan::NO_MORE {
+    if answer == text_scan::NO_MORE {
         tell(
             b"expected the line's end: a sheet has 4 numbers, a simple event 15, a stepped event at most 64 steps, hex at most 32 bytes",
         );
     }
-    if answer == scan::MORE {
+    if answer == text_scan::MORE {
         tell(
             b"expected more numbers: a sheet has 4, a simple event 15, a stepped event 5 and then 4 for each step, hex at least one byte",
         );
@@ -70,15 +70,15 @@ fn tell_place(answer: u8) {
 
 // What was expected between the cells of a line, or stands there.
 fn tell_cell(answer: u8) {
-    if answer == scan::OTHER_SEPARATOR {
+    if answer == text_scan::OTHER_SEPARATOR {
         tell(b"expected the line's separator: one of comma, semicolon and tab parts all its cells");
     }
-    if answer == scan::SEPARATOR {
+    if answer == text_scan::SEPARATOR {
         tell(
             b"expected the line's separator: in a line of cells a space or a bar alone parts nothing; write 1000, not 1 000",
         );
     }
-    if answer == scan::EMPTY_CELL {
+    if answer == text_scan::EMPTY_CELL {
         tell(b"an empty cell; write 0");
     }
 }
@@ -186,7 +186,7 @@ fn keep(out: &[u8], year: u16, at: usize, writing: bool) -> Told {
 
 // The year after a line that stands for some bytes.
 fn year_after(year: u16, kind: u8, bytes: &[u8]) -> u16 {
-    if kind != shape::SHEET {
+    if kind != text_items::SHEET {
         return year;
     }
     unpack::year_after(year, bytes)
@@ -201,7 +201,7 @@ fn take_line(
     writing: bool,
     out: &mut [u8],
 ) -> Told {
-    let parsed = entry::parse(text, told.year);
+    let parsed = text_parse::parse(text, told.year);
     if parsed.answer != 0 {
         tell_where(name, line, next(parsed.at as u64));
         tell_wrong(text, parsed.at, parsed.answer, told.year);

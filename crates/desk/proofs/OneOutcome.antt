@@ -13,7 +13,7 @@ use contract.Monad.{Fun, fact}
 use denote.Triple.Entry.{Args, Res}
 use denote.Triple.Clauses.{Ended, Lasts, AtExit, atExit}
 use Rattle.base.proofs.OneOutcome.{alike}
-use Rattle.plan.specs.Serve.{servedOf, mapServed, deskServed}
+use Rattle.desk_rules.specs.Serve.{servedOf, mapServed, deskServed}
 use Rattle.desk.proofs.serve as serve
 
 -- a claim of the lifetimes, the arguments, the result and the parameters at exit

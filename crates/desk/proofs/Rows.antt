@@ -10,18 +10,18 @@ use types.Kit.{Given}
 use denote.RattleType.{RattleType}
 use denote.Laws.{Is, Tells, Makes}
 use denote.Struct.Laws as LL
-use Rattle.roll.specs.declared.Roll.{Roll}
-use Rattle.roll.proofs.Roll as TRoll
-use Rattle.roll.proofs.Roll.Laws as TRoll′
+use Rattle.desk_scan.specs.declared.Roll.{Roll}
+use Rattle.desk_scan.proofs.Roll as TRoll
+use Rattle.desk_scan.proofs.Roll.Laws as TRoll′
 use Rattle.ledger.specs.declared.Ledger.{Ledger}
 use Rattle.ledger.proofs.Ledger as TLedger
 use Rattle.ledger.proofs.Ledger.Laws as TLedger′
-use Rattle.plan.specs.declared.Served.{Served}
-use Rattle.plan.proofs.Served as TServed
-use Rattle.plan.proofs.Served.Laws as TServed′
-use Rattle.plan.specs.declared.Plan.{Plan}
-use Rattle.plan.proofs.Plan as TPlan
-use Rattle.plan.proofs.Plan.Laws as TPlan′
+use Rattle.desk_rules.specs.declared.Served.{Served}
+use Rattle.desk_rules.proofs.Served as TServed
+use Rattle.desk_rules.proofs.Served.Laws as TServed′
+use Rattle.desk_rules.specs.declared.Plan.{Plan}
+use Rattle.desk_rules.proofs.Plan as TPlan
+use Rattle.desk_rules.proofs.Plan.Laws as TPlan′
 
 abbrev pub RollR : RattleType
 RollR = TRoll.the-row

@@ -3,14 +3,14 @@
 ghost use mathlib.Core.Path.{_≡_};
 ghost use mathlib.Core.Bool.{true};
 ghost use lib.ListN.{length, getD, set};
-ghost use Rattle.roll.specs.Inside.{rollBy, rolled};
-ghost use Rattle.plan.specs.Rules.{lookAt};
-ghost use Rattle.plan.specs.Plan.{planOf};
-ghost use Rattle.plan.specs.Serve.{servedOf, mapServed, deskServed};
+ghost use Rattle.desk_scan.specs.Inside.{rollBy, rolled};
+ghost use Rattle.desk_rules.specs.Rules.{lookAt};
+ghost use Rattle.desk_rules.specs.Plan.{planOf};
+ghost use Rattle.desk_rules.specs.Serve.{servedOf, mapServed, deskServed};
+use desk_rules::Plan;
+use desk_rules::Served;
+use desk_scan::Roll;
 use ledger::Ledger;
-use plan::Plan;
-use plan::Served;
-use roll::Roll;
 use slot::Slot;
 
 // The slot at an index, or another where the desk has none there.
@@ -36,7 +36,7 @@ fn enter_all(desk: &[Slot], numbers: &mut [u16]) -> bool
     let mut sound = true;
     let mut i: usize = 0;
     while i < desk.len() {
-        sound = roll::enter(numbers, sound, i, desk[i]);
+        sound = desk_scan::enter(numbers, sound, i, desk[i]);
         i += 1;
     }
     sound
@@ -50,7 +50,7 @@ fn planned(desk: &[Slot], ledger: Ledger, map: &[u8], bytes: &[u8]) -> Plan
     let sound = enter_all(desk, &mut numbers);
     let roll = Roll::by(sound, numbers);
     let slot = slot_at(desk, roll.named(bytes), Slot::free());
-    plan::decide(desk.len(), roll, slot, ledger, map, bytes)
+    desk_rules::decide(desk.len(), roll, slot, ledger, map, bytes)
 }
 
 // One message: the answer number and the next ledger. An accepted open marks its number and takes the free slot of lowest index; an accepted step
@@ -59,11 +59,11 @@ fn planned(desk: &[Slot], ledger: Ledger, map: &[u8], bytes: &[u8]) -> Plan
 pub fn serve(ledger: Ledger, map: &mut [u8], desk: &mut [Slot], bytes: &[u8]) -> Served
     ensures { λ r. ⌜ (r ≡ servedOf ledger (now (map .entry)) (now (desk .entry)) (now (bytes .entry))) × (now (map .exit) ≡ mapServed ledger (now (map .entry)) (now (desk .entry)) (now (bytes .entry))) × (now (desk .exit) ≡ deskServed ledger (now (map .entry)) (now (desk .entry)) (now (bytes .entry))) ⌝ }
 {
-    if desk.len() != roll::SLOTS {
+    if desk.len() != desk_scan::SLOTS {
         return Served { answer: 1, ledger };
     }
     let p = planned(desk, ledger, map, bytes);
     slot_put(desk, p.at, p.slot);
-    marks::mark(map, p.number);
-    plan::served_by(p)
+    used_numbers::mark(map, p.number);
+    desk_rules::served_by(p)
 }

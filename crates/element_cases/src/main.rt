@@ -1,12 +1,12 @@
 // Cases of the element table and its figures: each line is a case's name and what must come out, worked out by hand from document 02, K1. A record's
 // answer is one number; an exact figure is 0, top and bottom; a decimal is 0, whole part and digits; a refusal is its number alone.
 use decimal::Shown;
-use inflow::Inflow;
+use element_pieces::Inflow;
+use element_rates::Figure;
+use element_row::Row;
+use element_table::Table;
 use ledger::Ledger;
 use libc::STDOUT_FILENO;
-use rates::Figure;
-use row::Row;
-use table::Table;
 
 // ---- what is printed
 
@@ -213,8 +213,8 @@ fn asked(name: &[u8], t: Table) {
     word(name);
     number(filed.answer as u64);
     number(taken.answer as u64);
-    number(number_of(rates::rate_of(t, 15)));
-    one(number_of(rates::mean_of(t, 15)));
+    number(number_of(element_rates::rate_of(t, 15)));
+    one(number_of(element_rates::mean_of(t, 15)));
 }
 
 // What is known of transformers.
@@ -508,11 +508,17 @@ fn taken() {
 
 // 17, and figures that are there: of a row, in 5 years.
 fn rate(name: &[u8], outages: u32, stock: u8, amount: u32) {
-    exactly(name, rates::rate_of(of_row(outages, 0, stock, amount), 15));
+    exactly(
+        name,
+        element_rates::rate_of(of_row(outages, 0, stock, amount), 15),
+    );
 }
 
 fn mean(name: &[u8], outages: u32, minutes: u64) {
-    exactly(name, rates::mean_of(of_row(outages, minutes, 0, 0), 15));
+    exactly(
+        name,
+        element_rates::mean_of(of_row(outages, minutes, 0, 0), 15),
+    );
 }
 
 fn figures() {
@@ -538,17 +544,23 @@ fn decimals() {
     word(b"-- decimals\n");
     let pieces = of_row(3, 400, 1, 40);
     let line = of_row(3, 400, 2, 40);
-    shown(b"the rate, 6 digits", rates::shown_rate(pieces, 15, 6));
-    shown(b"a line's", rates::shown_rate(line, 15, 6));
-    shown(b"the mean, 6 digits", rates::shown_mean(pieces, 15, 6));
-    shown(b"7 digits", rates::shown_mean(pieces, 15, 7));
+    shown(
+        b"the rate, 6 digits",
+        element_rates::shown_rate(pieces, 15, 6),
+    );
+    shown(b"a line's", element_rates::shown_rate(line, 15, 6));
+    shown(
+        b"the mean, 6 digits",
+        element_rates::shown_mean(pieces, 15, 6),
+    );
+    shown(b"7 digits", element_rates::shown_mean(pieces, 15, 7));
     shown(
         b"17 before 18",
-        rates::shown_mean(of_row(0, 0, 1, 40), 15, 7),
+        element_rates::shown_mean(of_row(0, 0, 1, 40), 15, 7),
     );
-    exactly(b"the rate of code 31", rates::rate_of(pieces, 31));
-    exactly(b"the mean of code 31", rates::mean_of(pieces, 31));
-    exactly(b"1 before 7", rates::rate_of(of_period(0), 31));
+    exactly(b"the rate of code 31", element_rates::rate_of(pieces, 31));
+    exactly(b"the mean of code 31", element_rates::mean_of(pieces, 31));
+    exactly(b"1 before 7", element_rates::rate_of(of_period(0), 31));
 }
 
 // 24: the beginning of a table, and what comes of a table that was refused.
@@ -579,9 +591,9 @@ fn piece(name: &[u8], table: Table, refused: u64, filled: usize) {
         held: 0,
         dead: false,
     };
-    let flowed = inflow::take_piece(flow, &mut buffer, filled);
+    let flowed = element_pieces::take_piece(flow, &mut buffer, filled);
     let next = flowed.flow;
-    let read = inflow::finish(next);
+    let read = element_pieces::finish(next);
     word(name);
     number(flowed.answer as u64);
     number(next.refused);

@@ -1,10 +1,10 @@
 // The element sheet: an observation period in years and the names of yearly element files as arguments; the sheet on standard output. The name - means
 // standard input, and so does no name at all. Where a file cannot be opened or read to its end there is no sheet: half of the data must not look like all of it.
-use inflow::Inflow;
+use element_pieces::Inflow;
+use element_table::Table;
 use libc::STDERR_FILENO;
 use libc::STDIN_FILENO;
 use libc::STDOUT_FILENO;
-use table::Table;
 use text::Text;
 
 // More pieces than any file has: 2^40. Past them the reading has failed.
@@ -203,7 +203,7 @@ fn read_file(fd: i32, begun: Inflow, buffer: &mut [u8]) -> Input {
                 failed: false,
             };
         }
-        let flowed = inflow::take_piece(flow, buffer, filled.count);
+        let flowed = element_pieces::take_piece(flow, buffer, filled.count);
         if flowed.answer != 0 {
             return Input { flow, failed: true };
         }
@@ -222,9 +222,9 @@ struct Taken {
 
 fn take_open(fd: i32, table: Table) -> Taken {
     let mut buffer = io::large_buffer();
-    let begun = inflow::begin(table);
+    let begun = element_pieces::begin(table);
     let input = read_file(fd, begun.flow, &mut buffer);
-    let read = inflow::finish(input.flow);
+    let read = element_pieces::finish(input.flow);
     let next = read.table;
     Taken {
         table: next,
@@ -373,7 +373,7 @@ fn print_row(table: Table, row: usize) -> bool {
         return true;
     }
     let name = wire::part(&NAMES, offsets[row], offsets[row + 1]);
-    let line = listing::line_of(table, elements::code_at(row), name);
+    let line = element_line::line_of(table, element_codes::code_at(row), name);
     print_text(line.text)
 }
 
@@ -416,7 +416,9 @@ fn print_refused(refused: [u64; 1024], count: usize) -> bool {
 // The whole sheet, up to what cannot be written.
 fn print_sheet(whole: Whole) -> bool {
     let refused = whole.refused;
-    print_text(listing::heading()) && print_rows(whole.table) && print_refused(refused, whole.count)
+    print_text(element_line::heading())
+        && print_rows(whole.table)
+        && print_refused(refused, whole.count)
 }
 
 // ---- the period

@@ -1,6 +1,6 @@
 // The exact figures: one book on standard input, and on standard output each index as the fraction that the formula gives, in lowest terms.
+use book_pieces::Feed;
 use codes::Set;
-use feed::Feed;
 use index::Answer;
 use index::Index;
 use index::Level;
@@ -72,7 +72,7 @@ fn read_book(map: &mut [u8], buffer: &mut [u8]) -> Input {
                 failed: false,
             };
         }
-        let fed = feed::take_piece(feed, map, buffer, filled.count);
+        let fed = book_pieces::take_piece(feed, map, buffer, filled.count);
         if fed.answer != 0 {
             return Input { feed, failed: true };
         }
@@ -171,7 +171,7 @@ fn main() {
     let mut map = [0u8; 8192];
     let mut buffer = io::large_buffer();
     let input = read_book(&mut map, &mut buffer);
-    let read = feed::finish(input.feed);
+    let read = book_pieces::finish(input.feed);
     if input.failed | (read.answer != 0) {
         complain(b"standard input cannot be read\n");
         return;

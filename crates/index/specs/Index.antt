@@ -19,7 +19,7 @@ use Rattle.index.specs.declared.Index.{Index}
 use Rattle.index.specs.declared.Index.the-variants.{Saifi, Saidi, Caidi}
 use Rattle.index.specs.declared.Answer.{Answer}
 use Rattle.index.specs.declared.Answer.the-variants.{Is, Refused}
-use Rattle.index.specs.Sums.{totalOf, servedOf}
+use Rattle.index.specs.Sums.{totalOf, customersOf}
 
 -- the figure above the line
 abbrev pub aboveOf : Index → Figure
@@ -44,7 +44,7 @@ weightOf Caidi = 2
 
 -- the customers that an index divides by; 17: "SAIFI or SAIDI with no customers, CAIDI with no customers interrupted"
 abbrev pub dividedBy : Ledger → Index → Level → Set → ℕ
-dividedBy l index level set = divisorOf index (totalOf (l .rows) level set) (servedOf (l .sheet .totals) level)
+dividedBy l index level set = divisorOf index (totalOf (l .rows) level set) (customersOf (l .sheet .totals) level)
 
 -- 01's formula, before it is brought to lowest terms
 abbrev pub formulaOf : Ledger → Index → Level → Set → Fraction

@@ -13,12 +13,12 @@ use Rattle.ledger.specs.declared.TypeRow.{TypeRow}
 use Rattle.ledger.specs.Ledger.{held}
 use Rattle.index.specs.declared.Level.{Level}
 use Rattle.index.specs.declared.Level.the-variants.{NN, VN, VVN, Network}
-use Rattle.index.specs.Sums.{sumTo, cellAt, heldOr, overLevels, totalOf, servedOf}
+use Rattle.index.specs.Sums.{sumTo, cellAt, heldOr, overLevels, totalOf, customersOf}
 
 -- the network's figures and its N are the levels' together
 pub record Levels (rs : List TypeRow) (totals : List ℕ) (set : Set) : Type 0 where
   pub figures : (x : Figure) → held x (totalOf rs Network set) ≡ held x (totalOf rs NN set) + held x (totalOf rs VN set) + held x (totalOf rs VVN set)
-  pub served : servedOf totals Network ≡ servedOf totals NN + servedOf totals VN + servedOf totals VVN
+  pub served : customersOf totals Network ≡ customersOf totals NN + customersOf totals VN + customersOf totals VVN
 
 -- a type's three cells together
 abbrev pub typeSum : List TypeRow → ℕ → Cell

@@ -47,8 +47,8 @@ totalOf rs VVN set = levelSum rs 2 set
 totalOf rs Network set = overLevels (λ h. levelSum rs h set)
 
 -- N of a level; the network's is the levels' together
-abbrev pub servedOf : List ℕ → Level → ℕ
-servedOf totals NN = getD totals 0 0
-servedOf totals VN = getD totals 1 0
-servedOf totals VVN = getD totals 2 0
-servedOf totals Network = getD totals 0 0 + getD totals 1 0 + getD totals 2 0
+abbrev pub customersOf : List ℕ → Level → ℕ
+customersOf totals NN = getD totals 0 0
+customersOf totals VN = getD totals 1 0
+customersOf totals VVN = getD totals 2 0
+customersOf totals Network = getD totals 0 0 + getD totals 1 0 + getD totals 2 0

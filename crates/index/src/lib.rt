@@ -2,7 +2,7 @@
 ghost use mathlib.Core.Path.{_≡_};
 ghost use Prim.Native.Nat.{_≤_, _<_};
 ghost use Rattle.codes.specs.Codes.{levels};
-ghost use Rattle.index.specs.Sums.{plusCell, heldOr, levelSum, totalOf, servedOf};
+ghost use Rattle.index.specs.Sums.{plusCell, heldOr, levelSum, totalOf, customersOf};
 ghost use Rattle.index.specs.Inside.{Fit, Low};
 ghost use Rattle.index.specs.Index.{topOf, divisorOf, weightOf, indexOf, shownIndex};
 use annex::Customers;
@@ -105,7 +105,7 @@ fn wide(x: u32) -> u64
 
 // The customers served on a level or in the network: N.
 fn served(totals: [u32; 3], level: Level) -> u64
-    ensures { λ r. ⌜ (r ≡ servedOf totals level) × (r ≤ 12884901885) ⌝ }
+    ensures { λ r. ⌜ (r ≡ customersOf totals level) × (r ≤ 12884901885) ⌝ }
 {
     match level {
         Level::NN => wide(totals[0]),

@@ -10,8 +10,8 @@ use borrow.Author.Tests.{eq-eqb, ne-eqb, eqb-true, eqb-false}
 use Rattle.base.specs.First.{first}
 use Rattle.base.proofs.TestLaws.{Tested, holds, fails, test}
 use Rattle.wire.specs.Frame.{kindOf}
-use Rattle.marks.specs.Marks.{markedWith}
-use Rattle.marks.proofs.MarkLaws.{markedWith-zero, markedWith-size}
+use Rattle.used_numbers.specs.Marks.{markedWith}
+use Rattle.used_numbers.proofs.MarkLaws.{markedWith-zero, markedWith-size}
 use Rattle.verdict.specs.declared.Verdict.{Verdict}
 use Rattle.verdict.specs.Verdict.{refusedWith}
 use Rattle.record.specs.Rules.{rules}

@@ -5,7 +5,7 @@ use mathlib.Core.Bool.{Bool, _||_, not, cond}
 use lib.ListN.{length}
 use lib.Dec.{eqb}
 use Rattle.base.specs.First.{Rule, first}
-use Rattle.marks.specs.Marks.{markedWith, mapSize}
+use Rattle.used_numbers.specs.Marks.{markedWith, mapSize}
 use Rattle.record.specs.Rules.{rules}
 use Rattle.record.specs.Verdict.{verdictOf}
 use Rattle.ledger.specs.declared.Ledger.{Ledger}

@@ -196,7 +196,7 @@ impl Ledger {
         }
         let sheet = self.sheet;
         let v = record::judge(bytes, sheet, &map[..], self.events);
-        marks::mark(map, v.number);
+        used_numbers::mark(map, v.number);
         self.add(v)
     }
 }

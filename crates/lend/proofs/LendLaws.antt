@@ -12,7 +12,7 @@ use lib.Seq.{take-all, length-take-le}
 use borrow.Author.Tests.{ltb-true, ltb-false}
 use Rattle.ledger.specs.declared.Ledger.{Ledger}
 use Rattle.slot.specs.declared.Slot.{Slot}
-use Rattle.plan.specs.Serve.{servedOf, mapServed, deskServed}
+use Rattle.desk_rules.specs.Serve.{servedOf, mapServed, deskServed}
 use Rattle.lend.specs.Lend.{servedFirst, mapFirst}
 
 -- the smaller of the two, by cases

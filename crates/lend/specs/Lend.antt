@@ -5,7 +5,7 @@ use mathlib.Core.List.{List, _++_}
 use lib.ListN.{take, drop}
 use Rattle.ledger.specs.declared.Ledger.{Ledger}
 use Rattle.slot.specs.declared.Slot.{Slot}
-use Rattle.plan.specs.Serve.{servedOf, mapServed, deskServed}
+use Rattle.desk_rules.specs.Serve.{servedOf, mapServed, deskServed}
 use Rattle.lend.specs.declared.Lent.{Lent}
 
 -- the slots afterwards, and the answer with the ledger

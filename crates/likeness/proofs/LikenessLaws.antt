@@ -9,7 +9,7 @@ use lib.Seq.{drop-cons}
 use native.Mathlib.Omega.{arith}
 use native.Mathlib.Numerals.{add-one}
 use borrow.Author.Tests.{ne-eqb, eq-eqb}
-use Rattle.scan.specs.Scan.{isGap, partedHere}
+use Rattle.text_scan.specs.Scan.{isGap, partedHere}
 use Rattle.likeness.specs.Likeness.{isLetter, lowered, beginsAlike, isAlike, lettersIn}
 
 neither : (a b : Bool) → b ≡ false → (a && b) ≡ false

@@ -5,8 +5,8 @@ use mathlib.Core.Bool.{Bool, true, false, _&&_, _||_, cond}
 use lib.Dec.{eqb, ltb, leb}
 use lib.ListN.{length, drop}
 use Rattle.wire.specs.Numbers.{byteAt}
-use Rattle.scan.specs.Scan.{isGap, isDigit, partedHere}
-use Rattle.entry.specs.Entry.{wordText, itemRefused}
+use Rattle.text_scan.specs.Scan.{isGap, isDigit, partedHere}
+use Rattle.text_parse.specs.Entry.{wordText, itemRefused}
 
 -- a letter of ASCII, or a byte past it: those of other alphabets
 unfoldable pub isLetter : ℕ → Bool

@@ -71,7 +71,7 @@ fn is_alike(s: &[u8], word: &[u8]) -> bool
     if !begins_alike(s, word) {
         return false;
     }
-    scan::parted_here(wire::part(s, word.len(), s.len()))
+    text_scan::parted_here(wire::part(s, word.len(), s.len()))
 }
 
 // Whether one of the four words stands in front, in whichever letters.
@@ -114,7 +114,7 @@ fn letters_in(s: &[u8]) -> bool
         if letter_behind(behind, b) {
             return true;
         }
-        behind = scan::is_gap(b);
+        behind = text_scan::is_gap(b);
         i += 1;
     }
     false
@@ -170,10 +170,10 @@ fn item_like(s: &[u8], answer: u8) -> u8
     if first == 34 {
         return QUOTED;
     }
-    if answer != scan::TIME {
+    if answer != text_scan::TIME {
         return 0;
     }
-    if scan::is_digit(first) {
+    if text_scan::is_digit(first) {
         return OTHER_TIME;
     }
     0
@@ -202,14 +202,14 @@ fn time_goes_on(s: &[u8]) -> bool
     if !marks_time(wire::byte_at(s, 0)) {
         return false;
     }
-    scan::is_digit(wire::byte_at(s, 1))
+    text_scan::is_digit(wire::byte_at(s, 1))
 }
 
 // What stands behind an item of a sort.
 fn gap_like(s: &[u8], item: u8) -> u8
     ensures { λ r. ⌜ r ≡ gapLike (now (s .entry)) item ⌝ }
 {
-    if item != shape::TIME {
+    if item != text_items::TIME {
         return 0;
     }
     if time_goes_on(s) {
@@ -222,13 +222,13 @@ fn gap_like(s: &[u8], item: u8) -> u8
 fn asks_item(answer: u8) -> bool
     ensures { λ r. ⌜ r ≡ (eqb answer 2 || (eqb answer 6 || eqb answer 9)) ⌝ }
 {
-    if answer == scan::NUMBER {
+    if answer == text_scan::NUMBER {
         return true;
     }
-    if answer == scan::TIME {
+    if answer == text_scan::TIME {
         return true;
     }
-    answer == scan::TWO_DIGITS
+    answer == text_scan::TWO_DIGITS
 }
 
 // What stands at a place of a line that was refused there: its answer says what was expected, and the year is that of the sheet before it.
@@ -236,11 +236,11 @@ pub fn likeness_of(line: &[u8], at: usize, answer: u8, year: u16) -> u8
     ensures { λ r. ⌜ r ≡ likenessOf (now (line .entry)) at answer year ⌝ }
 {
     let s = wire::part(line, at, line.len());
-    if answer == scan::WORD {
+    if answer == text_scan::WORD {
         return word_like(s);
     }
-    if answer == scan::GAP {
-        return gap_like(s, entry::item_refused(line, year));
+    if answer == text_scan::GAP {
+        return gap_like(s, text_parse::item_refused(line, year));
     }
     if asks_item(answer) {
         return item_like(s, answer);

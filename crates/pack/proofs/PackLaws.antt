@@ -10,9 +10,9 @@ use native.Mathlib.Numerals.{add-one}
 use borrow.Author.Tests.{ne-eqb}
 use Rattle.wire.specs.Numbers.{le2, le4}
 use Rattle.codec.specs.Codec.{fourEach, frame, headBytes}
-use Rattle.shape.specs.declared.Entry.{Entry}
-use Rattle.shape.specs.Shape.{wholeOf}
-use Rattle.shape.proofs.ShapeLaws.{whole-sheet, whole-simple, whole-stepped}
+use Rattle.text_items.specs.declared.Entry.{Entry}
+use Rattle.text_items.specs.Shape.{wholeOf}
+use Rattle.text_items.proofs.ShapeLaws.{whole-sheet, whole-simple, whole-stepped}
 use Rattle.pen.specs.Pen.{Spot, pushed, pushedAll}
 use Rattle.pen.proofs.PenLaws.{pushed-all-append}
 use Rattle.pack.specs.Pack.{oneEach, headOf, sheetBytes, simpleBytes, steppedBytes, stepsOf, packedAs, packedOf}

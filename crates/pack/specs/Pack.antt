@@ -6,8 +6,8 @@ use lib.Dec.{eqb}
 use lib.ListN.{length, take, drop, getD}
 use Rattle.fields.specs.declared.Head.{Head}
 use Rattle.codec.specs.Codec.{sheetRecord, simpleRecord, steppedRecord}
-use Rattle.shape.specs.declared.Entry.{Entry}
-use Rattle.shape.specs.Shape.{wholeOf}
+use Rattle.text_items.specs.declared.Entry.{Entry}
+use Rattle.text_items.specs.Shape.{wholeOf}
 
 abbrev pub oneEach : List ℕ → List ℕ
 oneEach [] = []

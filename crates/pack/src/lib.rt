@@ -5,7 +5,7 @@ ghost use lib.ListN.{take, drop};
 ghost use Rattle.pen.specs.Pen.{spot, pushedAll};
 ghost use Rattle.pack.specs.Pack.{oneEach, headOf, packedOf};
 ghost use Rattle.codec.specs.Codec.{fourEach, headBytes};
-use shape::Entry;
+use text_items::Entry;
 
 // The numbers before the `count`-th, a byte for each.
 fn put_bytes(out: &mut [u8], at: usize, values: [u32; 261], count: usize) -> usize
@@ -99,16 +99,16 @@ pub fn pack(out: &mut [u8], at: usize, entry: Entry) -> usize
     let kind = entry.kind;
     let count = entry.count;
     let values = entry.values;
-    if !shape::is_whole(kind, count) {
+    if !text_items::is_whole(kind, count) {
         return at;
     }
-    if kind == shape::SHEET {
+    if kind == text_items::SHEET {
         return put_sheet(out, at, values, count);
     }
-    if kind == shape::SIMPLE {
+    if kind == text_items::SIMPLE {
         return put_simple(out, at, values, count);
     }
-    if kind == shape::STEPPED {
+    if kind == text_items::STEPPED {
         return put_stepped(out, at, values, count);
     }
     put_bytes(out, at, values, count)

@@ -13,7 +13,7 @@ use Rattle.wire.specs.Frame.{framed, kindOf}
 use Rattle.codes.specs.Codes.{levelOf}
 use Rattle.annex.specs.declared.Step.{Step}
 use Rattle.annex.specs.Times.{minutesIn}
-use Rattle.marks.specs.Marks.{marked}
+use Rattle.used_numbers.specs.Marks.{marked}
 use Rattle.fields.specs.declared.Sheet.{Sheet}
 use Rattle.fields.specs.Fields.{headIn, simpleIn, stepsIn}
 use Rattle.fields.specs.Tests.{headListed}

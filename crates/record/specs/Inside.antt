@@ -9,7 +9,7 @@ use Rattle.codes.specs.Codes.{levelOf, rows, levels}
 use Rattle.codes.specs.Ranges.{mostEvents}
 use Rattle.annex.specs.declared.Simple.{Simple}
 use Rattle.annex.specs.Times.{minutesIn}
-use Rattle.marks.specs.Marks.{marked}
+use Rattle.used_numbers.specs.Marks.{marked}
 use Rattle.fields.specs.declared.Sheet.{Sheet}
 use Rattle.fields.specs.declared.Head.{Head}
 use Rattle.fields.specs.Tests.{headListed, inRange}

@@ -12,7 +12,7 @@ use Rattle.codes.specs.Codes.{levelOf}
 use Rattle.codes.specs.Ranges.{mostEvents}
 use Rattle.annex.specs.declared.Step.{Step}
 use Rattle.annex.specs.Times.{minutesIn}
-use Rattle.marks.specs.Marks.{marked}
+use Rattle.used_numbers.specs.Marks.{marked}
 use Rattle.fields.specs.declared.Sheet.{Sheet}
 use Rattle.fields.specs.Fields.{sheetIn, headIn, simpleIn, stepsIn, stepCount}
 use Rattle.fields.specs.Tests.{inRange, headListed}

@@ -100,7 +100,7 @@ fn simple_answer(head: Head, e: Simple, sheet: Sheet, map: &[u8], events: u16) -
     if limits::is_none_then_some(e) {
         return 13;
     }
-    if marks::is_marked(map, head.number) {
+    if used_numbers::is_marked(map, head.number) {
         return 14;
     }
     if codes::MOST_EVENTS <= events {
@@ -135,7 +135,7 @@ fn stepped_answer(head: Head, w: Walk, sheet: Sheet, map: &[u8], events: u16) ->
     let rest = first_of_four(
         limits::figures_above(f, codes::level_of(head.voltage)),
         false,
-        marks::is_marked(map, head.number),
+        used_numbers::is_marked(map, head.number),
         codes::MOST_EVENTS <= events,
     );
     first_of(

@@ -2,8 +2,8 @@
 use annex::Customers;
 use annex::HalfMinutes;
 use book::Read;
-use feed::Fed;
-use feed::Feed;
+use book_pieces::Fed;
+use book_pieces::Feed;
 use fields::Sheet;
 use ledger::Cell;
 use ledger::Ledger;
@@ -107,19 +107,19 @@ fn pieces() {
     let start = feed_of(empty, 0, 0, false);
     print_fed(
         b"a map of 8,191 bytes",
-        feed::take_piece(start, &mut short_map, &mut buffer, 8),
+        book_pieces::take_piece(start, &mut short_map, &mut buffer, 8),
     );
     print_fed(
         b"an unsound ledger",
-        feed::take_piece(feed_of(unsound(), 0, 0, false), &mut map, &mut buffer, 8),
+        book_pieces::take_piece(feed_of(unsound(), 0, 0, false), &mut map, &mut buffer, 8),
     );
     print_fed(
         b"11 bytes of a buffer of 10",
-        feed::take_piece(start, &mut map, &mut buffer, 11),
+        book_pieces::take_piece(start, &mut map, &mut buffer, 11),
     );
     print_fed(
         b"too many refused before",
-        feed::take_piece(
+        book_pieces::take_piece(
             feed_of(empty, 4611686018427387905, 0, false),
             &mut map,
             &mut buffer,
@@ -128,7 +128,7 @@ fn pieces() {
     );
     print_fed(
         b"both of these",
-        feed::take_piece(
+        book_pieces::take_piece(
             feed_of(empty, 4611686018427387905, 0, false),
             &mut map,
             &mut buffer,
@@ -137,7 +137,7 @@ fn pieces() {
     );
     print_fed(
         b"all three",
-        feed::take_piece(
+        book_pieces::take_piece(
             feed_of(unsound(), 4611686018427387905, 0, false),
             &mut map,
             &mut buffer,
@@ -146,11 +146,11 @@ fn pieces() {
     );
     print_fed(
         b"a record and two bytes",
-        feed::take_piece(start, &mut map, &mut buffer, 6),
+        book_pieces::take_piece(start, &mut map, &mut buffer, 6),
     );
     print_fed(
         b"their rest, read again as 2 bytes",
-        feed::take_piece(feed_of(empty, 1, 2, false), &mut map, &mut buffer, 2),
+        book_pieces::take_piece(feed_of(empty, 1, 2, false), &mut map, &mut buffer, 2),
     );
 }
 
@@ -161,11 +161,11 @@ fn dead_ends() {
     let empty = Ledger::empty();
     print_fed(
         b"a record and a length of 3",
-        feed::take_piece(feed_of(empty, 0, 0, false), &mut map, &mut buffer, 10),
+        book_pieces::take_piece(feed_of(empty, 0, 0, false), &mut map, &mut buffer, 10),
     );
     print_fed(
         b"a dead rest",
-        feed::take_piece(feed_of(empty, 1, 6, true), &mut map, &mut buffer, 10),
+        book_pieces::take_piece(feed_of(empty, 1, 6, true), &mut map, &mut buffer, 10),
     );
 }
 
@@ -173,24 +173,27 @@ fn ends() {
     let empty = Ledger::empty();
     print_read(
         b"nothing is left",
-        feed::finish(feed_of(empty, 3, 0, false)),
+        book_pieces::finish(feed_of(empty, 3, 0, false)),
     );
-    print_read(b"a byte is left", feed::finish(feed_of(empty, 3, 1, false)));
+    print_read(
+        b"a byte is left",
+        book_pieces::finish(feed_of(empty, 3, 1, false)),
+    );
     print_read(
         b"just so many refused",
-        feed::finish(feed_of(empty, 4611686018427387904, 1, false)),
+        book_pieces::finish(feed_of(empty, 4611686018427387904, 1, false)),
     );
     print_read(
         b"too many refused",
-        feed::finish(feed_of(empty, 4611686018427387905, 1, false)),
+        book_pieces::finish(feed_of(empty, 4611686018427387905, 1, false)),
     );
     print_read(
         b"an unsound ledger at the end",
-        feed::finish(feed_of(unsound(), 3, 1, false)),
+        book_pieces::finish(feed_of(unsound(), 3, 1, false)),
     );
     print_read(
         b"an unsound ledger, and too many refused",
-        feed::finish(feed_of(unsound(), 4611686018427387905, 0, false)),
+        book_pieces::finish(feed_of(unsound(), 4611686018427387905, 0, false)),
     );
 }
 

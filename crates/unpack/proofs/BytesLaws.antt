@@ -5,7 +5,7 @@ use mathlib.Core.List.{List, [], _∷_, _++_}
 use lib.ListN.{length, take, getD, set, replicate}
 use lib.Seq.{set-append-seam, append-snoc, take-suc, take-all, length-take-le}
 use native.Mathlib.Omega.{arith}
-use Rattle.shape.specs.Shape.{entryOf}
+use Rattle.text_items.specs.Shape.{entryOf}
 use Rattle.unpack.specs.Unpack.{bytesEntry}
 
 module _ (s : List ℕ) where

@@ -13,9 +13,9 @@ use Rattle.wire.specs.Numbers.{byteAt, le16, le32}
 use Rattle.wire.specs.Frame.{framed, kindOf}
 use Rattle.fields.specs.Fields.{sheetIn, stepCount}
 use Rattle.fields.specs.Tests.{inRange}
-use Rattle.shape.specs.declared.Entry.{Entry}
-use Rattle.shape.specs.Shape.{mostOf, entryOf}
-use Rattle.shape.proofs.ShapeLaws.{most-small}
+use Rattle.text_items.specs.declared.Entry.{Entry}
+use Rattle.text_items.specs.Shape.{mostOf, entryOf}
+use Rattle.text_items.proofs.ShapeLaws.{most-small}
 use Rattle.unpack.specs.Unpack.{kindIn, steppedIn, countIn, valueIn, valuesRun, unpackedOf, yearAfter}
 
 module _ (s : List ℕ) where

@@ -8,8 +8,8 @@ use Rattle.wire.specs.Numbers.{byteAt, le16, le32}
 use Rattle.wire.specs.Frame.{framed, kindOf}
 use Rattle.fields.specs.Fields.{sheetIn, stepCount}
 use Rattle.fields.specs.Tests.{inRange}
-use Rattle.shape.specs.declared.Entry.{Entry}
-use Rattle.shape.specs.Shape.{mostOf, entryOf, noEntry}
+use Rattle.text_items.specs.declared.Entry.{Entry}
+use Rattle.text_items.specs.Shape.{mostOf, entryOf, noEntry}
 
 -- "14 + 16 x steps", "Steps are 1 to 64"
 abbrev pub steppedIn : List ℕ → ℕ

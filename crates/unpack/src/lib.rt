@@ -1,52 +1,52 @@
 // A record taken apart into the numbers of the line that stands for it.
 ghost use mathlib.Core.Path.{_≡_};
 ghost use Rattle.unpack.specs.Unpack.{kindIn, countIn, valueIn, unpackedOf, bytesEntry, yearAfter};
-use shape::Entry;
+use text_items::Entry;
 
 // The sort of line that stands for some bytes: a record whose length is its own and right for its kind. No sort for any other bytes.
 fn kind_in(s: &[u8]) -> u8
     ensures { λ r. ⌜ r ≡ kindIn (now (s .entry)) ⌝ }
 {
     if !wire::is_framed(s) {
-        return shape::BLANK;
+        return text_items::BLANK;
     }
     let kind = wire::kind_of(s);
     if kind == 1 {
         if s.len() == 18 {
-            return shape::SHEET;
+            return text_items::SHEET;
         }
-        return shape::BLANK;
+        return text_items::BLANK;
     }
     if kind == 2 {
         if s.len() == 53 {
-            return shape::SIMPLE;
+            return text_items::SIMPLE;
         }
-        return shape::BLANK;
+        return text_items::BLANK;
     }
     if kind != 3 {
-        return shape::BLANK;
+        return text_items::BLANK;
     }
     let steps = wire::byte_at(s, 13);
     if steps == 0 {
-        return shape::BLANK;
+        return text_items::BLANK;
     }
     if 64 < steps {
-        return shape::BLANK;
+        return text_items::BLANK;
     }
     if s.len() == 14 + 16 * steps as usize {
-        return shape::STEPPED;
+        return text_items::STEPPED;
     }
-    shape::BLANK
+    text_items::BLANK
 }
 
 // How many numbers a line of a sort has for a record.
 fn count_in(s: &[u8], kind: u8) -> usize
     ensures { λ r. ⌜ r ≡ countIn (now (s .entry)) kind ⌝ }
 {
-    if kind == shape::STEPPED {
+    if kind == text_items::STEPPED {
         return 5 + 4 * (wire::byte_at(s, 13) as usize);
     }
-    shape::most_of(kind)
+    text_items::most_of(kind)
 }
 
 // The k-th number of a record that a line of a sort stands for.
@@ -59,7 +59,7 @@ fn value_in(s: &[u8], kind: u8, k: usize) -> u32
     if k == 0 {
         return wire::u16_at(s, 4) as u32;
     }
-    if kind == shape::SHEET {
+    if kind == text_items::SHEET {
         return wire::u32_at(s, 4 * k + 2);
     }
     if k < 4 {
@@ -68,7 +68,7 @@ fn value_in(s: &[u8], kind: u8, k: usize) -> u32
     if k == 4 {
         return wire::u32_at(s, 9);
     }
-    if kind == shape::SIMPLE {
+    if kind == text_items::SIMPLE {
         return wire::u32_at(s, 4 * k - 7);
     }
     wire::u32_at(s, 4 * k - 6)
@@ -81,7 +81,7 @@ pub fn unpack(s: &[u8]) -> Entry
     let kind = kind_in(s);
     let mut values = [0u32; 261];
     let mut k: usize = 0;
-    if kind == shape::BLANK {
+    if kind == text_items::BLANK {
         return Entry {
             kind,
             count: 0,
@@ -117,7 +117,7 @@ pub fn bytes_entry(s: &[u8]) -> Entry
         k += 1;
     }
     Entry {
-        kind: shape::HEX,
+        kind: text_items::HEX,
         count: k,
         values,
     }
@@ -130,7 +130,7 @@ pub fn year_after(year: u16, s: &[u8]) -> u16
     if year != 0 {
         return year;
     }
-    if kind_in(s) != shape::SHEET {
+    if kind_in(s) != text_items::SHEET {
         return 0;
     }
     let sheet = fields::sheet_of(s);

@@ -9,7 +9,7 @@ use Rattle.codes.specs.Codes.{rowOf, levelOf, causes, causeListed, rowHeld}
 use Rattle.annex.specs.Times.{minutesIn, isShort}
 use Rattle.annex.specs.Figures.{withStep}
 use Rattle.annex.specs.Simple.{simpleFigures}
-use Rattle.marks.specs.Marks.{marked, marking, markedWith}
+use Rattle.used_numbers.specs.Marks.{marked, marking, markedWith}
 use Rattle.verdict.specs.Verdict.{eventVerdict}
 use Rattle.record.specs.Inside.{answerAt, verdictAt}
 use Rattle.record.specs.Verdict.{recordAnswer, verdictOf}

@@ -8,8 +8,8 @@ use Rattle.codes.specs.declared.Set.the-variants as set
 use Rattle.ledger.specs.declared.Ledger.{Ledger}
 use Rattle.ledger.specs.Ledger.{emptyLedger, cellOf}
 use Rattle.ledger.specs.Take.{answerOf}
-use Rattle.book.specs.Book.{State, starting, takeRecord, afterBook}
-use Rattle.sums.specs.Accepted.{zeroMap}
+use Rattle.book.specs.Book.{BookState, starting, takeRecord, afterBook}
+use Rattle.law_sums.specs.Accepted.{zeroMap}
 use Rattle.index.specs.declared.Level.{Level}
 use Rattle.index.specs.declared.Level.the-variants as level
 use Rattle.index.specs.declared.Index.the-variants as index
@@ -42,7 +42,7 @@ abbrev pub totals : Ledger → Level → List ℕ
 totals l lv = totalOf (l .rows) lv set.All .customers .0 ∷ totalOf (l .rows) lv set.All .halves .0 ∷ []
 
 -- one record after a sheet: the answer, events, short events, and customers and halves of the cell of type 11 on a level
-abbrev pub afterSheet : List ℕ → State
+abbrev pub afterSheet : List ℕ → BookState
 afterSheet s = takeRecord (starting emptyLedger zeroMap) s
 
 abbrev pub taken : List ℕ → List ℕ → ℕ → List ℕ

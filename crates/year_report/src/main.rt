@@ -1,5 +1,5 @@
 // The year report: one book on standard input, the report on standard output.
-use feed::Feed;
+use book_pieces::Feed;
 use ledger::Ledger;
 use libc::STDERR_FILENO;
 use libc::STDIN_FILENO;
@@ -67,7 +67,7 @@ fn read_book(map: &mut [u8], buffer: &mut [u8]) -> Input {
                 failed: false,
             };
         }
-        let fed = feed::take_piece(feed, map, buffer, filled.count);
+        let fed = book_pieces::take_piece(feed, map, buffer, filled.count);
         if fed.answer != 0 {
             return Input { feed, failed: true };
         }
@@ -81,7 +81,7 @@ fn main() {
     let mut map = [0u8; 8192];
     let mut buffer = io::large_buffer();
     let input = read_book(&mut map, &mut buffer);
-    let read = feed::finish(input.feed);
+    let read = book_pieces::finish(input.feed);
     if input.failed | (read.answer != 0) {
         io::write_all(
             STDERR_FILENO,

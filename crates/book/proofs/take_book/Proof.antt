@@ -11,7 +11,7 @@ use borrow.Author.Tests.{eq-eqb, ne-eqb, eqb-true, not-false}
 use Rattle.base.proofs.TestLaws.{or-left, or-right}
 use Rattle.ledger.specs.Sound.{soundLedger}
 use Rattle.ledger.specs.Take.{unsound}
-use Rattle.book.specs.declared.Run.{Run}
+use Rattle.book.specs.declared.Pass.{Pass}
 use Rattle.records.specs.Records.{isBroken}
 use Rattle.book.specs.Book.{afterBook}
 use Rattle.book.proofs.RunLaws.{read-nothing, read-through, refused-below}
@@ -44,7 +44,7 @@ add-t13 : tie.Need-add-t13
 add-t13 c =
     let a = c .before .before .before .before .before .before .before .before .before .before .before .before .args in
     let few : c .before .before .before .before .before .before .take-records .result .refused ≤ length (a .book .now) =
-    subst⁻¹ (λ (r : Run). r .refused ≤ length (a .book .now)) (c .before .before .before .before .before .before .take-records .ensures .0) (refused-below (a .ledger) (a .map .now) (a .book .now)) in
+    subst⁻¹ (λ (r : Pass). r .refused ≤ length (a .book .now)) (c .before .before .before .before .before .before .take-records .ensures .0) (refused-below (a .ledger) (a .map .now) (a .book .now)) in
     omega (arith, c .before .before .before .before .before .before .before .before .before .before .before .before .good .1 .1 .0)
 
 returns-2 : tie.Need-returns-2
@@ -53,7 +53,7 @@ returns-2 c =
     let m = a .map .now in
     let book = a .book .now in
     let run = c .before .before .before .before .before .before .take-records .ensures in
-    let b : isBroken book ≡ true = ap (λ (r : Run). eqb (r .which) 2) (sym (run .0)) ∙ eq-eqb _ _ (c .before .if2 .taken) in
+    let b : isBroken book ≡ true = ap (λ (r : Pass). eqb (r .which) 2) (sym (run .0)) ∙ eq-eqb _ _ (c .before .if2 .taken) in
     let h = read-through (a .ledger) m book (fine (c .before .before .before .before .before .before .before .before)) in (
       (λ i. record { answer = 0; ledger = run .0 i .ledger; refused = run .0 i .refused + 1; broken = true }) ∙
           (λ i. record { answer = 0; ledger = afterBook (a .ledger) m book .ledger; refused = afterBook (a .ledger) m book .refused + cond (sym b i) 1 0; broken = sym b i }) ∙
@@ -67,7 +67,7 @@ returns-3 c =
     let m = a .map .now in
     let book = a .book .now in
     let run = c .before .before .before .before .before .take-records .ensures in
-    let b : isBroken book ≡ false = ap (λ (r : Run). eqb (r .which) 2) (sym (run .0)) ∙ ne-eqb _ _ (c .if2 .left) in
+    let b : isBroken book ≡ false = ap (λ (r : Pass). eqb (r .which) 2) (sym (run .0)) ∙ ne-eqb _ _ (c .if2 .left) in
     let h = read-through (a .ledger) m book (fine (c .before .before .before .before .before .before .before)) in (
       (λ i. record { answer = 0; ledger = run .0 i .ledger; refused = run .0 i .refused; broken = false }) ∙
           (λ i. record { answer = 0; ledger = afterBook (a .ledger) m book .ledger; refused = (sym (add-zero (afterBook (a .ledger) m book .refused)) ∙ (λ j. afterBook (a .ledger) m book .refused + cond (sym b j) 1 0)) i; broken = sym b i }) ∙

@@ -1,5 +1,5 @@
--- `desk::enter_all` meets its contract: a walk of its MIR, by hand, with a loop whose turn calls `roll::enter`. The slots are looked into once, before the loop, and shut once, after it; at each turn the rest of the pass gives what the whole one does.
--- The numbers are opened once, before the loop, and closed once, after it; between, each turn lends them to `roll::enter` for a lifetime that the turn makes, and has them back at the last list. All that it knows of `roll::enter` is that it meets its contract.
+-- `desk::enter_all` meets its contract: a walk of its MIR, by hand, with a loop whose turn calls `desk_scan::enter`. The slots are looked into once, before the loop, and shut once, after it; at each turn the rest of the pass gives what the whole one does.
+-- The numbers are opened once, before the loop, and closed once, after it; between, each turn lends them to `desk_scan::enter` for a lifetime that the turn makes, and has them back at the last list. All that it knows of `desk_scan::enter` is that it meets its contract.
 -- Assumes nothing.
 use mathlib.Core.Path.{_≡_, refl, sym, _∙_, ap, subst}
 use mathlib.Core.Bool.{Bool, true}
@@ -52,13 +52,13 @@ use denote.Triple.Clauses.{ensured, lasts}
 use denote.Triple.Table.{entered, cited}
 use Rattle.slot.specs.declared.Slot.{Slot}
 use Rattle.slot.specs.Slot.{freeSlot}
-use Rattle.roll.specs.declared.Roll.{Roll}
-use Rattle.roll.specs.Inside.{rollBy, rolledSlot, rolled}
-use Rattle.roll.proofs.enter as enter-slot
-use Rattle.roll.proofs.enter.Symbol as enter-slot-def
-use Rattle.roll.proofs.enter.Symbol.{name as #roll·enter}
-use Rattle.roll.proofs.enter.Met as enter-slot-thm
-use Rattle.roll.proofs.RollLaws.{turned, at-end}
+use Rattle.desk_scan.specs.declared.Roll.{Roll}
+use Rattle.desk_scan.specs.Inside.{rollBy, rolledSlot, rolled}
+use Rattle.desk_scan.proofs.enter as enter-slot
+use Rattle.desk_scan.proofs.enter.Symbol as enter-slot-def
+use Rattle.desk_scan.proofs.enter.Symbol.{name as #desk_scan·enter}
+use Rattle.desk_scan.proofs.enter.Met as enter-slot-thm
+use Rattle.desk_scan.proofs.RollLaws.{turned, at-end}
 use Rattle.desk.proofs.SlotLaws.{R, vals, tells, place-slot, offset-fits, after, ty-at, slot-shows, slot-copy, slot-makes, slot-typed}
 use Rattle.desk.proofs.enter_all.Key.{name as #desk·enter-all}
 use Rattle.desk.proofs.enter_all as enter-all
@@ -151,7 +151,7 @@ module _ {M : Type 1} (𝓤 : URA M) (H : Heap 𝓤) (A : Atoms 𝓤) (W : Given
   fits : (j : Upto) → j .0 < 2 ^ 64
   fits j = lt-of-le-of-lt (j .1 .1 .1 .0) (room₀ .0)
 
-  module _ (𝓣 : Tables 𝓤 H) (fm : FmC 𝓤 H (W .laws) (𝓣 .C)) (known-enter : Triple 𝓤 (𝓣 .C #roll·enter) (Enter 𝓤 H A mem run)) (l₀ l₁ l₂ l₃ l₄ l₅ l₆ l₇ l₈ l₉ l₁₀ : ℕ) (q′ : Share) where
+  module _ (𝓣 : Tables 𝓤 H) (fm : FmC 𝓤 H (W .laws) (𝓣 .C)) (known-enter : Triple 𝓤 (𝓣 .C #desk_scan·enter) (Enter 𝓤 H A mem run)) (l₀ l₁ l₂ l₃ l₄ l₅ l₆ l₇ l₈ l₉ l₁₀ : ℕ) (q′ : Share) where
     abbrev C : Calls 𝓤 H
     C = 𝓣 .C
 
@@ -231,7 +231,7 @@ module _ {M : Type 1} (𝓤 : URA M) (H : Heap 𝓤) (A : Atoms 𝓤) (W : Given
         come : (u : Upto) → (n ≤ u .0) → rollBy (u .1 .0) (u .1 .1 .0) ≡ all
         come u over = sym (at-end (rollBy (u .1 .0) (u .1 .1 .0)) (u .0) ys over) ∙ u .1 .1 .1 .1
 
-  walk : (𝓣 : Tables 𝓤 H) → FmC 𝓤 H (W .laws) (𝓣 .C) → Triple 𝓤 (𝓣 .C #roll·enter) (Enter 𝓤 H A mem run)
+  walk : (𝓣 : Tables 𝓤 H) → FmC 𝓤 H (W .laws) (𝓣 .C) → Triple 𝓤 (𝓣 .C #desk_scan·enter) (Enter 𝓤 H A mem run)
       → ent 𝓤 (onEntry 𝓤 H A enter-all.signature (κ₀, (κ₁, tt)) (q₀, (q₁, tt)) x at) (WpFn 𝓤 H (𝓣 .C) (𝓣 .Λ) code.function (v₀ ∷ v₁ ∷ []) Post)
   walk 𝓣 fm known =
       qed W ((‵ (flft κ₀ q₀) ⊛ ‵ (flft κ₁ q₁) ⊛ ‵ ftrue) ∷ ‵ (owns (ShrSlice (named 0) κ₀ R ∷ MutSlice (named 1) κ₁ u16 ∷ []) x at) ∷ []) ∵ enter ! (𝓣 .C) (𝓣 .Λ) code.function (v₀ ∷ v₁ ∷ []) _ $
@@ -250,12 +250,12 @@ module _ {M : Type 1} (𝓤 : URA M) (H : Heap 𝓤) (A : Atoms 𝓤) (W : Given
       first ! $ blocks ! $ loops ! 𝓣 Nearer Nearer-wf (At 𝓣 fm known l₀ l₁ l₂ l₃ l₄ l₅ l₆ l₇ l₈ l₉ l₁₀ q′) (turns 𝓣 fm known l₀ l₁ l₂ l₃ l₄ l₅ l₆ l₇ l₈ l₉ l₁₀ q′) (0, (true, (start, (zero-le, refl, refl))))))))))))))))
 
 module _ {M : Type 1} (𝓤 : URA M) (H : Heap 𝓤) (A : Atoms 𝓤) (W : Given 𝓤 H A) (mem : Memory → SProp 𝓤) (run : Routine → Fun 𝓤) where
-  enter-all-walks : (𝓣 : Tables 𝓤 H) → FmC 𝓤 H (W .laws) (𝓣 .C) → Triple 𝓤 (𝓣 .C #roll·enter) (Enter 𝓤 H A mem run)
+  enter-all-walks : (𝓣 : Tables 𝓤 H) → FmC 𝓤 H (W .laws) (𝓣 .C) → Triple 𝓤 (𝓣 .C #desk_scan·enter) (Enter 𝓤 H A mem run)
       → Walks 𝓤 H A enter-all.ended stayed (WpFn 𝓤 H (𝓣 .C) (𝓣 .Λ) code.function) (enter-all.clauses 𝓤 H A mem run)
   enter-all-walks 𝓣 fm known-enter = walked 𝓤 H A enter-all.ended stayed (enter-all.clauses 𝓤 H A mem run) (WpFn 𝓤 H (𝓣 .C) (𝓣 .Λ) code.function) (λ κs. (slice-vals, (slice-vals, tt))) (λ κs. (shr-slice-tells (named 0) (κs .0) R, (mut-slice-tells (named 1) (κs .1 .0) u16, tt)))
       (λ κs qs bounds a g are. via 𝓤 _ (fst∗ 𝓤 _ (emp 𝓤)) (walk 𝓤 H A W mem run (κs .0) (κs .1 .0) (qs .0) (qs .1 .0) (a .0 .ptr .0) (a .0 .ptr .1) (a .0 .name) (a .0 .now) (a .1 .0 .ptr .0) (a .1 .0 .ptr .1) (a .1 .0 .name) (a .1 .0 .now) (are .0 .0 .1) (are .1 .0 .0 .1) 𝓣 fm known-enter))
 
-enter-all-meets : {M : Type 1} (𝓤 : URA M) (H : Heap 𝓤) (A : Atoms 𝓤) (W : Given 𝓤 H A) (mem : Memory → SProp 𝓤) (run : Routine → Fun 𝓤) (𝓣 : Tables 𝓤 H) → Triple 𝓤 (𝓣 .C #roll·enter) (Enter 𝓤 H A mem run)
+enter-all-meets : {M : Type 1} (𝓤 : URA M) (H : Heap 𝓤) (A : Atoms 𝓤) (W : Given 𝓤 H A) (mem : Memory → SProp 𝓤) (run : Routine → Fun 𝓤) (𝓣 : Tables 𝓤 H) → Triple 𝓤 (𝓣 .C #desk_scan·enter) (Enter 𝓤 H A mem run)
     → Meets 𝓤 H A enter-all.signature (WpFn 𝓤 H (𝓣 .C) (𝓣 .Λ) code.function) (enter-all.spec 𝓤 H A mem run)
 enter-all-meets 𝓤 H A W mem run 𝓣 known-enter =
     walk-meets 𝓤 H A enter-all.ended stayed W (goes-none-slice 𝓤 H A W 2 (0 ∷ []) tt (plain (λ _. R)) yes, (goes-slice 𝓤 H A W 2 1 tt (plain (λ _. u16)), tt)) (enter-all.clauses 𝓤 H A mem run)
@@ -267,4 +267,4 @@ enter-all-spec 𝓤 H 𝓜 𝓖 𝓡 =
     entered 𝓤 H (tripleOf 𝓤 H (𝓖 .A) enter-all.signature (enter-all.spec 𝓤 H (𝓖 .A) (𝓜 .mem) (𝓡 .run)))
     (tables 𝓤 H 𝓜 𝓡 code.env .C) (tables 𝓤 H 𝓜 𝓡 code.env .Λ) #desk·enter-all code.function (code.unfolded 𝓤 H 𝓜 𝓡)
     (enter-all-meets 𝓤 H (𝓖 .A) (givenOf 𝓤 H 𝓜 𝓖) (𝓜 .mem) (𝓡 .run) (tablesOf 𝓤 H 𝓜 (tables 𝓤 H 𝓜 𝓡 code.env))
-    (cited 𝓤 H (Enter 𝓤 H (𝓖 .A) (𝓜 .mem) (𝓡 .run)) 𝓜 𝓡 code.env #roll·enter enter-slot-def.routine code.calls-roll·enter (enter-slot-thm.met 𝓤 H 𝓜 𝓖 𝓡)))
+    (cited 𝓤 H (Enter 𝓤 H (𝓖 .A) (𝓜 .mem) (𝓡 .run)) 𝓜 𝓡 code.env #desk_scan·enter enter-slot-def.routine code.calls-desk-scan·enter (enter-slot-thm.met 𝓤 H 𝓜 𝓖 𝓡)))

@@ -50,13 +50,13 @@ use Rattle.slot.specs.declared.Slot.{Slot}
 use Rattle.slot.specs.Slot.{freeSlot}
 use Rattle.slot.proofs.Slot as TSlot
 use Rattle.slot.proofs.Slot.Laws as TSlot′
-use Rattle.roll.specs.declared.Roll.{Roll}
-use Rattle.roll.specs.Inside.{rollBy, rollOf, placeNamed}
-use Rattle.roll.proofs.Roll.Laws as TRoll′
-use Rattle.plan.specs.declared.Plan.{Plan}
-use Rattle.plan.specs.Inside.{planBy}
-use Rattle.plan.proofs.Plan.Laws as TPlan′
-use Rattle.plan.proofs.ServeLaws.{plan-is}
+use Rattle.desk_scan.specs.declared.Roll.{Roll}
+use Rattle.desk_scan.specs.Inside.{rollBy, rollOf, placeNamed}
+use Rattle.desk_scan.proofs.Roll.Laws as TRoll′
+use Rattle.desk_rules.specs.declared.Plan.{Plan}
+use Rattle.desk_rules.specs.Inside.{planBy}
+use Rattle.desk_rules.proofs.Plan.Laws as TPlan′
+use Rattle.desk_rules.proofs.ServeLaws.{plan-is}
 use Rattle.desk.proofs.ArrayLend.{cell-in, cell-out, lends-whole, whole-back}
 use Rattle.desk.proofs.SlotLaws.{R, vals, tells, ty-at, slot-makes}
 use Rattle.desk.proofs.Rows.{RollR, LedgerR, PlanR, roll-vals, roll-tells, roll-makes, roll-typed, ledger-mach, ledger-vals, ledger-tells, ledger-makes, ledger-typed, plan-mach, plan-vals, plan-tells, plan-makes, plan-typed}
@@ -64,14 +64,14 @@ use Rattle.desk.proofs.enter_all as enter-all
 use Rattle.desk.proofs.enter_all.Symbol as enter-all-def
 use Rattle.desk.proofs.enter_all.Symbol.{name as #desk·enter-all}
 use Rattle.desk.proofs.enter_all.Met as enter-all-thm
-use Rattle.roll.proofs.Roll.by as by-roll
-use Rattle.roll.proofs.Roll.by.Symbol as by-roll-def
-use Rattle.roll.proofs.Roll.by.Symbol.{name as #roll·Roll·by}
-use Rattle.roll.proofs.Roll.by.Met as by-roll-thm
-use Rattle.roll.proofs.Roll.named as named-roll
-use Rattle.roll.proofs.Roll.named.Symbol as named-roll-def
-use Rattle.roll.proofs.Roll.named.Symbol.{name as #roll·Roll·named}
-use Rattle.roll.proofs.Roll.named.Met as named-roll-thm
+use Rattle.desk_scan.proofs.Roll.by as by-roll
+use Rattle.desk_scan.proofs.Roll.by.Symbol as by-roll-def
+use Rattle.desk_scan.proofs.Roll.by.Symbol.{name as #desk_scan·Roll·by}
+use Rattle.desk_scan.proofs.Roll.by.Met as by-roll-thm
+use Rattle.desk_scan.proofs.Roll.named as named-roll
+use Rattle.desk_scan.proofs.Roll.named.Symbol as named-roll-def
+use Rattle.desk_scan.proofs.Roll.named.Symbol.{name as #desk_scan·Roll·named}
+use Rattle.desk_scan.proofs.Roll.named.Met as named-roll-thm
 use Rattle.slot.proofs.Slot.free as free
 use Rattle.slot.proofs.Slot.free.Symbol as free-def
 use Rattle.slot.proofs.Slot.free.Symbol.{name as #slot·Slot·free}
@@ -80,10 +80,10 @@ use Rattle.desk.proofs.slot_at as slot-at
 use Rattle.desk.proofs.slot_at.Symbol as slot-at-def
 use Rattle.desk.proofs.slot_at.Symbol.{name as #desk·slot-at}
 use Rattle.desk.proofs.slot_at.Met as slot-at-thm
-use Rattle.plan.proofs.decide as decide
-use Rattle.plan.proofs.decide.Symbol as decide-def
-use Rattle.plan.proofs.decide.Symbol.{name as #plan·decide}
-use Rattle.plan.proofs.decide.Met as decide-thm
+use Rattle.desk_rules.proofs.decide as decide
+use Rattle.desk_rules.proofs.decide.Symbol as decide-def
+use Rattle.desk_rules.proofs.decide.Symbol.{name as #desk_rules·decide}
+use Rattle.desk_rules.proofs.decide.Met as decide-thm
 use Rattle.desk.proofs.planned.Key.{name as #desk·planned}
 use Rattle.desk.proofs.planned as planned
 use Rattle.desk.proofs.planned.Statement as stated
@@ -250,7 +250,7 @@ module _ {M : Type 1} (𝓤 : URA M) (H : Heap 𝓤) (A : Atoms 𝓤) (W : Given
   goes-decide gr gs =
       qed W (‵ (flft κ₁ q₁) ∷ ‵ (flft κ₂ q₂) ∷ ‵ Own₁ ∷ ‵ Own₂ ∷ []) ∵ nothing ! $ move ! (2 ∷ 0 ∷ []) $ join ! $ move ! (1 ∷ 0 ∷ []) $ join ! $ nothing ! $ move ! (3 ∷ 0 ∷ []) $ fjoin ! $ move ! (2 ∷ 0 ∷ []) $ fjoin ! $ owned ! LedgerR (Is LedgerR) (ledger-makes 𝓤 H A W) l _ gl $ fjoin ! $ owned ! R (Is R) (slot-makes 𝓤 H A W) slot _ gs $ fjoin ! $ owned ! RollR (Is RollR) (roll-makes 𝓤 H A W) roll _ gr $ fjoin ! $ owned ! usize (Is usize) (uint-makes 𝓤 H A W w64) (length (d .now)) _ (refl, room₀ .0) $ fjoin ! $ move ! (1 ∷ 0 ∷ []) $ join ! $ frame ! $ done !
 
-  module _ (C : Calls 𝓤 H) (Λ : Loops 𝓤 H) (fm : FmC 𝓤 H (W .laws) C) (known-enter-all : Triple 𝓤 (C #desk·enter-all) (EnterAll 𝓤 H A mem run)) (known-by-roll : Triple 𝓤 (C #roll·Roll·by) (By 𝓤 H A mem run)) (known-named-roll : Triple 𝓤 (C #roll·Roll·named) (Named 𝓤 H A mem run)) (known-free : Triple 𝓤 (C #slot·Slot·free) (Free 𝓤 H A mem run)) (known-slot-at : Triple 𝓤 (C #desk·slot-at) (SlotAt 𝓤 H A mem run)) (known-decide : Triple 𝓤 (C #plan·decide) (Decide 𝓤 H A mem run)) where
+  module _ (C : Calls 𝓤 H) (Λ : Loops 𝓤 H) (fm : FmC 𝓤 H (W .laws) C) (known-enter-all : Triple 𝓤 (C #desk·enter-all) (EnterAll 𝓤 H A mem run)) (known-by-roll : Triple 𝓤 (C #desk_scan·Roll·by) (By 𝓤 H A mem run)) (known-named-roll : Triple 𝓤 (C #desk_scan·Roll·named) (Named 𝓤 H A mem run)) (known-free : Triple 𝓤 (C #slot·Slot·free) (Free 𝓤 H A mem run)) (known-slot-at : Triple 𝓤 (C #desk·slot-at) (SlotAt 𝓤 H A mem run)) (known-decide : Triple 𝓤 (C #desk_rules·decide) (Decide 𝓤 H A mem run)) where
     walk : ent 𝓤 (onEntry 𝓤 H A planned.signature (κ₀, (κ₁, (κ₂, tt))) (q₀, (q₁, (q₂, tt))) a at) (WpFn 𝓤 H C Λ code.function (v₀ ∷ ledger-mach l ∷ v₁ ∷ v₂ ∷ []) Post)
     walk =
         qed W ((‵ (flft κ₀ q₀) ⊛ ‵ (flft κ₁ q₁) ⊛ ‵ (flft κ₂ q₂) ⊛ ‵ ftrue) ∷ ‵ (owns (ShrSlice (named 0) κ₀ R ∷ LedgerR ∷ ShrSlice (named 1) κ₁ u8 ∷ ShrSlice (named 2) κ₂ u8 ∷ []) a at) ∷ []) ∵
@@ -303,7 +303,7 @@ module _ {M : Type 1} (𝓤 : URA M) (H : Heap 𝓤) (A : Atoms 𝓤) (W : Given
         use1 W (later (some (λ (r : Slot). ((‵ (flft κ₀ q₀) ⊛ ‵ ftrue) ⊛ ‵ (R .own r (w₅ ∷ []))) ⊛ raw (ensured 𝓤 H A slot-at.ended (slot-at.clauses 𝓤 H A mem run) (to-slot-at .0 .0) (to-slot-at .0 .3) tt r)))) (id⊢ 𝓤 _) $ await ! tt $ pick ! (λ r₅.
         split ! $ move ! (1 ∷ []) $ use1 W (raw (fact 𝓤 (r₅ ≡ slot))) (at-said 𝓤 H A mem run κ₀ d i freeSlot r₅) $ heard ! (r₅ ≡ slot) (λ e₅. split ! $ move ! (1 ∷ []) $ rewrite ! 0 (λ (r : Slot). ‵ (R .own r (w₅ ∷ []))) e₅ refl $ facts ! R (Is R) (shows 𝓤 H A R) (slot) (w₅ ∷ []) (λ is₅.
         land ! (from ! (stop !)) (init ! 17 refl (LL.lawful TSlot.the-type TSlot′.the-laws 𝓤 H A W .typed slot _ is₅ .0)) $ rewrite ! 17 (λ (u : Val). ‵ (fat fullShare TSlot′.mir l₈ 0 u)) (ap only (tells slot _ is₅)) refl $ split ! $ move ! (1 ∷ []) $ drop ! $
-        -- the length, and `plan::decide`
+        -- the length, and `desk_rules::decide`
         assigns ! (of-opd ! (load ! (from ! (fld ! refl (stop !))) (look-in ! 30 (sub ! 1 refl (whole !))))) (from ! (stop !)) (store ! 9 refl (tt, record { fits = room₀ .0 })) $
         move ! (5 ∷ []) $ use1 W (‵ Own₁ ⊛ ‵ Own₁) (shr-slice-copy 𝓤 H A W (named 1) κ₁ u8 .twice m (v₁ ∷ [])) $ split ! $ move ! (5 ∷ []) $ use1 W (‵ Own₂ ⊛ ‵ Own₂) (shr-slice-copy 𝓤 H A W (named 2) κ₂ u8 .twice s (v₂ ∷ [])) $ split ! $ move ! (7 ∷ 6 ∷ 2 ∷ 0 ∷ []) $ group ! 4 $ use1 W (raw (Decide 𝓤 H A mem run .pre to-decide)) (goes-decide (subst (Is RollR roll) (roll-tells roll _ is₂) is₂) (subst (Is R slot) (tells slot _ is₅) is₅)) $
         calls-at ! fm (Decide 𝓤 H A mem run) known-decide to-decide (and-then ! (load ! (from ! (stop !)) (look ! 8 refl)) (and-then ! (load ! (from ! (stop !)) (look ! 18 refl)) (and-then ! (load ! (from ! (stop !)) (look ! 16 refl)) (and-then ! (load ! (from ! (stop !)) (look ! 27 refl)) (and-then ! (load ! (from ! (stop !)) (look ! 25 refl)) (and-then ! (load ! (from ! (stop !)) (look ! 23 refl)) (no-more !))))))) (λ w₆.
@@ -316,11 +316,11 @@ module _ {M : Type 1} (𝓤 : URA M) (H : Heap 𝓤) (A : Atoms 𝓤) (W : Given
 module _ {M : Type 1} (𝓤 : URA M) (H : Heap 𝓤) (A : Atoms 𝓤) (W : Given 𝓤 H A) (mem : Memory → SProp 𝓤) (run : Routine → Fun 𝓤) where
   planned-walks : (C : Calls 𝓤 H) (Λ : Loops 𝓤 H) → FmC 𝓤 H (W .laws) C
       → Triple 𝓤 (C #desk·enter-all) (EnterAll 𝓤 H A mem run)
-      → Triple 𝓤 (C #roll·Roll·by) (By 𝓤 H A mem run)
-      → Triple 𝓤 (C #roll·Roll·named) (Named 𝓤 H A mem run)
+      → Triple 𝓤 (C #desk_scan·Roll·by) (By 𝓤 H A mem run)
+      → Triple 𝓤 (C #desk_scan·Roll·named) (Named 𝓤 H A mem run)
       → Triple 𝓤 (C #slot·Slot·free) (Free 𝓤 H A mem run)
       → Triple 𝓤 (C #desk·slot-at) (SlotAt 𝓤 H A mem run)
-      → Triple 𝓤 (C #plan·decide) (Decide 𝓤 H A mem run)
+      → Triple 𝓤 (C #desk_rules·decide) (Decide 𝓤 H A mem run)
       → Walks 𝓤 H A planned.ended stayed (WpFn 𝓤 H C Λ code.function) (planned.clauses 𝓤 H A mem run)
   planned-walks C Λ fm known-enter-all known-by-roll known-named-roll known-free known-slot-at known-decide =
       walked 𝓤 H A planned.ended stayed (planned.clauses 𝓤 H A mem run) (WpFn 𝓤 H C Λ code.function)
@@ -330,11 +330,11 @@ module _ {M : Type 1} (𝓤 : URA M) (H : Heap 𝓤) (A : Atoms 𝓤) (W : Given
 
 planned-meets : {M : Type 1} (𝓤 : URA M) (H : Heap 𝓤) (A : Atoms 𝓤) (W : Given 𝓤 H A) (mem : Memory → SProp 𝓤) (run : Routine → Fun 𝓤) (𝓣 : Tables 𝓤 H)
     → Triple 𝓤 (𝓣 .C #desk·enter-all) (EnterAll 𝓤 H A mem run)
-    → Triple 𝓤 (𝓣 .C #roll·Roll·by) (By 𝓤 H A mem run)
-    → Triple 𝓤 (𝓣 .C #roll·Roll·named) (Named 𝓤 H A mem run)
+    → Triple 𝓤 (𝓣 .C #desk_scan·Roll·by) (By 𝓤 H A mem run)
+    → Triple 𝓤 (𝓣 .C #desk_scan·Roll·named) (Named 𝓤 H A mem run)
     → Triple 𝓤 (𝓣 .C #slot·Slot·free) (Free 𝓤 H A mem run)
     → Triple 𝓤 (𝓣 .C #desk·slot-at) (SlotAt 𝓤 H A mem run)
-    → Triple 𝓤 (𝓣 .C #plan·decide) (Decide 𝓤 H A mem run)
+    → Triple 𝓤 (𝓣 .C #desk_rules·decide) (Decide 𝓤 H A mem run)
     → Meets 𝓤 H A planned.signature (WpFn 𝓤 H (𝓣 .C) (𝓣 .Λ) code.function) (planned.spec 𝓤 H A mem run)
 planned-meets 𝓤 H A W mem run 𝓣 known-enter-all known-by-roll known-named-roll known-free known-slot-at known-decide =
     walk-meets 𝓤 H A planned.ended stayed W
@@ -349,8 +349,8 @@ planned-spec 𝓤 H 𝓜 𝓖 𝓡 =
     (tables 𝓤 H 𝓜 𝓡 code.env .C) (tables 𝓤 H 𝓜 𝓡 code.env .Λ) #desk·planned code.function (code.unfolded 𝓤 H 𝓜 𝓡)
     (planned-meets 𝓤 H (𝓖 .A) (givenOf 𝓤 H 𝓜 𝓖) (𝓜 .mem) (𝓡 .run) (tablesOf 𝓤 H 𝓜 (tables 𝓤 H 𝓜 𝓡 code.env))
     (cited 𝓤 H (EnterAll 𝓤 H (𝓖 .A) (𝓜 .mem) (𝓡 .run)) 𝓜 𝓡 code.env #desk·enter-all enter-all-def.routine code.calls-desk·enter-all (enter-all-thm.met 𝓤 H 𝓜 𝓖 𝓡))
-    (cited 𝓤 H (By 𝓤 H (𝓖 .A) (𝓜 .mem) (𝓡 .run)) 𝓜 𝓡 code.env #roll·Roll·by by-roll-def.routine code.calls-roll·Roll·by (by-roll-thm.met 𝓤 H 𝓜 𝓖 𝓡))
-    (cited 𝓤 H (Named 𝓤 H (𝓖 .A) (𝓜 .mem) (𝓡 .run)) 𝓜 𝓡 code.env #roll·Roll·named named-roll-def.routine code.calls-roll·Roll·named (named-roll-thm.met 𝓤 H 𝓜 𝓖 𝓡))
+    (cited 𝓤 H (By 𝓤 H (𝓖 .A) (𝓜 .mem) (𝓡 .run)) 𝓜 𝓡 code.env #desk_scan·Roll·by by-roll-def.routine code.calls-desk-scan·Roll·by (by-roll-thm.met 𝓤 H 𝓜 𝓖 𝓡))
+    (cited 𝓤 H (Named 𝓤 H (𝓖 .A) (𝓜 .mem) (𝓡 .run)) 𝓜 𝓡 code.env #desk_scan·Roll·named named-roll-def.routine code.calls-desk-scan·Roll·named (named-roll-thm.met 𝓤 H 𝓜 𝓖 𝓡))
     (cited 𝓤 H (Free 𝓤 H (𝓖 .A) (𝓜 .mem) (𝓡 .run)) 𝓜 𝓡 code.env #slot·Slot·free free-def.routine code.calls-slot·Slot·free (free-thm.met 𝓤 H 𝓜 𝓖 𝓡))
     (cited 𝓤 H (SlotAt 𝓤 H (𝓖 .A) (𝓜 .mem) (𝓡 .run)) 𝓜 𝓡 code.env #desk·slot-at slot-at-def.routine code.calls-desk·slot-at (slot-at-thm.met 𝓤 H 𝓜 𝓖 𝓡))
-    (cited 𝓤 H (Decide 𝓤 H (𝓖 .A) (𝓜 .mem) (𝓡 .run)) 𝓜 𝓡 code.env #plan·decide decide-def.routine code.calls-plan·decide (decide-thm.met 𝓤 H 𝓜 𝓖 𝓡)))
+    (cited 𝓤 H (Decide 𝓤 H (𝓖 .A) (𝓜 .mem) (𝓡 .run)) 𝓜 𝓡 code.env #desk_rules·decide decide-def.routine code.calls-desk-rules·decide (decide-thm.met 𝓤 H 𝓜 𝓖 𝓡)))

@@ -42,21 +42,21 @@ use denote.Triple.Statement.{Contract, Triple}
 use denote.Triple.Call.{calls-at}
 use denote.Triple.Clauses.{ensured, lasts}
 use denote.Triple.Table.{entered, cited}
-use Rattle.marks.specs.Marks.{markedWith}
+use Rattle.used_numbers.specs.Marks.{markedWith}
 use Rattle.ledger.specs.declared.Ledger.{Ledger}
-use Rattle.plan.specs.declared.Served.{Served}
-use Rattle.plan.proofs.Served as TServed
-use Rattle.plan.proofs.Served.Laws as TServed′
+use Rattle.desk_rules.specs.declared.Served.{Served}
+use Rattle.desk_rules.proofs.Served as TServed
+use Rattle.desk_rules.proofs.Served.Laws as TServed′
 use Rattle.slot.specs.declared.Slot.{Slot}
 use Rattle.slot.proofs.Slot.Laws as TSlot′
-use Rattle.roll.specs.Desk.{slotCount}
-use Rattle.plan.specs.declared.Plan.{Plan}
-use Rattle.plan.specs.Rules.{lookAt}
-use Rattle.plan.specs.Plan.{planOf}
-use Rattle.plan.specs.Serve.{servedOf, mapServed, deskServed}
-use Rattle.plan.proofs.Plan as TPlan
-use Rattle.plan.proofs.Plan.Laws as TPlan′
-use Rattle.plan.proofs.ServeLaws.{plan-served, plan-map, plan-desk, other-served, other-map, other-desk}
+use Rattle.desk_scan.specs.Desk.{slotCount}
+use Rattle.desk_rules.specs.declared.Plan.{Plan}
+use Rattle.desk_rules.specs.Rules.{lookAt}
+use Rattle.desk_rules.specs.Plan.{planOf}
+use Rattle.desk_rules.specs.Serve.{servedOf, mapServed, deskServed}
+use Rattle.desk_rules.proofs.Plan as TPlan
+use Rattle.desk_rules.proofs.Plan.Laws as TPlan′
+use Rattle.desk_rules.proofs.ServeLaws.{plan-served, plan-map, plan-desk, other-served, other-map, other-desk}
 use Rattle.desk.proofs.SlotLaws.{R, vals, ty-at, slot-makes}
 use Rattle.desk.proofs.Shared.{LentOut, lends-out, out-back, unused}
 use Rattle.desk.proofs.Rows.{LedgerR, ServedR, PlanR, ledger-mach, ledger-vals, ledger-tells, ledger-makes, ledger-typed, served-mach, served-vals, served-tells, served-makes, served-typed, plan-vals, plan-tells, plan-makes, plan-typed}
@@ -68,14 +68,14 @@ use Rattle.desk.proofs.slot_put as slot-put
 use Rattle.desk.proofs.slot_put.Symbol as slot-put-def
 use Rattle.desk.proofs.slot_put.Symbol.{name as #desk·slot-put}
 use Rattle.desk.proofs.slot_put.Met as slot-put-thm
-use Rattle.marks.proofs.mark as mark
-use Rattle.marks.proofs.mark.Symbol as mark-def
-use Rattle.marks.proofs.mark.Symbol.{name as #marks·mark}
-use Rattle.marks.proofs.mark.Met as mark-thm
-use Rattle.plan.proofs.served_by as served-by
-use Rattle.plan.proofs.served_by.Symbol as served-by-def
-use Rattle.plan.proofs.served_by.Symbol.{name as #plan·served-by}
-use Rattle.plan.proofs.served_by.Met as served-by-thm
+use Rattle.used_numbers.proofs.mark as mark
+use Rattle.used_numbers.proofs.mark.Symbol as mark-def
+use Rattle.used_numbers.proofs.mark.Symbol.{name as #used_numbers·mark}
+use Rattle.used_numbers.proofs.mark.Met as mark-thm
+use Rattle.desk_rules.proofs.served_by as served-by
+use Rattle.desk_rules.proofs.served_by.Symbol as served-by-def
+use Rattle.desk_rules.proofs.served_by.Symbol.{name as #desk_rules·served-by}
+use Rattle.desk_rules.proofs.served_by.Met as served-by-thm
 use Rattle.desk.proofs.serve.Key.{name as #desk·serve}
 use Rattle.desk.proofs.serve as serve
 use Rattle.desk.proofs.serve.Statement as stated
@@ -207,7 +207,7 @@ module _ {M : Type 1} (𝓤 : URA M) (H : Heap 𝓤) (A : Atoms 𝓤) (W : Given
   E l₀ l₁ l₂ l₃ l₄ l₅ l₆ l₇ l₈ l₉ l₁₀ l₁₁ l₁₂ l₁₃ l₁₄ l₁₅ l₁₆ =
       (ty-at 0 body.locals, l₀) ∷ (ty-at 1 body.locals, l₁) ∷ (ty-at 2 body.locals, l₂) ∷ (ty-at 3 body.locals, l₃) ∷ (ty-at 4 body.locals, l₄) ∷ (ty-at 5 body.locals, l₅) ∷ (ty-at 6 body.locals, l₆) ∷ (ty-at 7 body.locals, l₇) ∷ (ty-at 8 body.locals, l₈) ∷ (ty-at 9 body.locals, l₉) ∷ (ty-at 10 body.locals, l₁₀) ∷ (ty-at 11 body.locals, l₁₁) ∷ (ty-at 12 body.locals, l₁₂) ∷ (ty-at 13 body.locals, l₁₃) ∷ (ty-at 14 body.locals, l₁₄) ∷ (ty-at 15 body.locals, l₁₅) ∷ (ty-at 16 body.locals, l₁₆) ∷ []
 
-  module _ (C : Calls 𝓤 H) (Λ : Loops 𝓤 H) (fm : FmC 𝓤 H (W .laws) C) (known-planned : Triple 𝓤 (C #desk·planned) (Planned 𝓤 H A mem run)) (known-slot-put : Triple 𝓤 (C #desk·slot-put) (SlotPut 𝓤 H A mem run)) (known-mark : Triple 𝓤 (C #marks·mark) (Mark 𝓤 H A mem run)) (known-served-by : Triple 𝓤 (C #plan·served-by) (ServedBy 𝓤 H A mem run)) where
+  module _ (C : Calls 𝓤 H) (Λ : Loops 𝓤 H) (fm : FmC 𝓤 H (W .laws) C) (known-planned : Triple 𝓤 (C #desk·planned) (Planned 𝓤 H A mem run)) (known-slot-put : Triple 𝓤 (C #desk·slot-put) (SlotPut 𝓤 H A mem run)) (known-mark : Triple 𝓤 (C #used_numbers·mark) (Mark 𝓤 H A mem run)) (known-served-by : Triple 𝓤 (C #desk_rules·served-by) (ServedBy 𝓤 H A mem run)) where
     walk : ent 𝓤 (onEntry 𝓤 H A serve.signature (κ₀, (κ₁, (κ₂, tt))) (q₀, (q₁, (q₂, tt))) a at) (WpFn 𝓤 H C Λ code.function (ledger-mach l ∷ v₀ ∷ v₁ ∷ v₂ ∷ []) Post)
     walk =
         qed W ((‵ (flft κ₀ q₀) ⊛ ‵ (flft κ₁ q₁) ⊛ ‵ (flft κ₂ q₂) ⊛ ‵ ftrue) ∷ ‵ (owns (LedgerR ∷ MutSlice (named 0) κ₀ u8 ∷ MutSlice (named 1) κ₁ R ∷ ShrSlice (named 2) κ₂ u8 ∷ []) a at) ∷ []) ∵
@@ -253,7 +253,7 @@ module _ {M : Type 1} (𝓤 : URA M) (H : Heap 𝓤) (A : Atoms 𝓤) (W : Given
         split ! $ move ! (1 ∷ []) $ use1 W (some (λ (zs : List Slot × (Unit {0} × (Unit {0} × Unit {0}))). ‵ (lasts slot-put.ended (κ₁, tt) (to-slot-put .0 .3) zs) ⊛ raw (fact 𝓤 (zs .0 ≡ set ys (p .at) (p .slot))))) (id⊢ 𝓤 _) $ pick ! (λ zs₂.
         split ! $ move ! (1 ∷ []) $ heard ! (zs₂ .0 ≡ set ys (p .at) (p .slot)) (λ e₂. fsplit ! $ fsplit ! $ move ! (1 ∷ []) $ feqL ! (λ n₂. move ! (1 ∷ []) $ drop ! $ move ! (1 ∷ []) $ split ! $ split ! $ move ! (1 ∷ []) $ drop ! $ move ! (1 ∷ []) $ feqL ! (λ u₂.
         land ! (from ! (stop !)) (init ! 14 refl (subst (λ (u : Val). T (hasTy tyUnit u) × WT u) (sym (ap only u₂)) (tt, tt))) $
-        -- `marks::mark`
+        -- `used_numbers::mark`
         assigns ! (addr ! (from ! (fld ! refl (hop ! (look-in ! 34 (sub ! 0 refl (whole !))) (stop !))))) (from ! (stop !)) (init ! 8 refl (tt, tt)) $
         assigns ! (agg ! (and-then ! (load ! (from ! (stop !)) (look ! 8 refl)) (and-then ! (load ! (from ! (fld ! refl (stop !))) (look-in ! 34 (sub ! 1 refl (whole !)))) (no-more !)))) (from ! (stop !)) (init ! 6 refl (tt, (tt, (record { fits = room₀ .0 }, tt)))) $
         move ! (3 ∷ 2 ∷ []) $ use2 W (raw (Mark 𝓤 H A mem run .pre to-mark)) (goes-mark (fields .1 .1 .1 .0 .1)) $
@@ -262,7 +262,7 @@ module _ {M : Type 1} (𝓤 : URA M) (H : Heap 𝓤) (A : Atoms 𝓤) (W : Given
         split ! $ move ! (1 ∷ []) $ use1 W (some (λ (zs : List ℕ × (Unit {0} × Unit {0})). ‵ (lasts mark.ended (κ₀, tt) (to-mark .0 .3) zs) ⊛ raw (fact 𝓤 (zs .0 ≡ markedWith bs (p .number))))) (id⊢ 𝓤 _) $ pick ! (λ zs₃.
         split ! $ move ! (1 ∷ []) $ heard ! (zs₃ .0 ≡ markedWith bs (p .number)) (λ e₃. fsplit ! $ fsplit ! $ move ! (1 ∷ []) $ feqL ! (λ n₃. move ! (1 ∷ []) $ drop ! $ move ! (1 ∷ []) $ split ! $ split ! $ move ! (1 ∷ []) $ drop ! $ move ! (1 ∷ []) $ feqL ! (λ u₃.
         land ! (from ! (stop !)) (store ! 14 refl (subst (λ (u : Val). T (hasTy tyUnit u) × WT u) (sym (ap only u₃)) (tt, tt))) $
-        -- `plan::served_by`
+        -- `desk_rules::served_by`
         use0 W (raw (ServedBy 𝓤 H A mem run .pre to-served-by)) (goes-served-by (subst (Is PlanR p) (plan-tells p _ is₁) is₁)) $
         calls-at ! fm (ServedBy 𝓤 H A mem run) known-served-by to-served-by (and-then ! (load ! (from ! (stop !)) (look ! 29 refl)) (no-more !)) (λ w₄.
         use1 W (later (some (λ (r : Served). (‵ ftrue ⊛ ‵ (ServedR .own r (w₄ ∷ []))) ⊛ raw (ensured 𝓤 H A served-by.ended (served-by.clauses 𝓤 H A mem run) (to-served-by .0 .0) (to-served-by .0 .3) tt r)))) (id⊢ 𝓤 _) $ await ! tt $ pick ! (λ r₄.
@@ -276,8 +276,8 @@ module _ {M : Type 1} (𝓤 : URA M) (H : Heap 𝓤) (A : Atoms 𝓤) (W : Given
   serve-walks : (C : Calls 𝓤 H) (Λ : Loops 𝓤 H) → FmC 𝓤 H (W .laws) C
       → Triple 𝓤 (C #desk·planned) (Planned 𝓤 H A mem run)
       → Triple 𝓤 (C #desk·slot-put) (SlotPut 𝓤 H A mem run)
-      → Triple 𝓤 (C #marks·mark) (Mark 𝓤 H A mem run)
-      → Triple 𝓤 (C #plan·served-by) (ServedBy 𝓤 H A mem run)
+      → Triple 𝓤 (C #used_numbers·mark) (Mark 𝓤 H A mem run)
+      → Triple 𝓤 (C #desk_rules·served-by) (ServedBy 𝓤 H A mem run)
       → Walks 𝓤 H A serve.ended stayed (WpFn 𝓤 H C Λ code.function) (serve.clauses 𝓤 H A mem run)
   serve-walks C Λ fm known-planned known-slot-put known-mark known-served-by =
       walked 𝓤 H A serve.ended stayed (serve.clauses 𝓤 H A mem run) (WpFn 𝓤 H C Λ code.function)
@@ -288,8 +288,8 @@ module _ {M : Type 1} (𝓤 : URA M) (H : Heap 𝓤) (A : Atoms 𝓤) (W : Given
 serve-meets : {M : Type 1} (𝓤 : URA M) (H : Heap 𝓤) (A : Atoms 𝓤) (W : Given 𝓤 H A) (mem : Memory → SProp 𝓤) (run : Routine → Fun 𝓤) (𝓣 : Tables 𝓤 H)
     → Triple 𝓤 (𝓣 .C #desk·planned) (Planned 𝓤 H A mem run)
     → Triple 𝓤 (𝓣 .C #desk·slot-put) (SlotPut 𝓤 H A mem run)
-    → Triple 𝓤 (𝓣 .C #marks·mark) (Mark 𝓤 H A mem run)
-    → Triple 𝓤 (𝓣 .C #plan·served-by) (ServedBy 𝓤 H A mem run)
+    → Triple 𝓤 (𝓣 .C #used_numbers·mark) (Mark 𝓤 H A mem run)
+    → Triple 𝓤 (𝓣 .C #desk_rules·served-by) (ServedBy 𝓤 H A mem run)
     → Meets 𝓤 H A serve.signature (WpFn 𝓤 H (𝓣 .C) (𝓣 .Λ) code.function) (serve.spec 𝓤 H A mem run)
 serve-meets 𝓤 H A W mem run 𝓣 known-planned known-slot-put known-mark known-served-by =
     walk-meets 𝓤 H A serve.ended stayed W
@@ -305,5 +305,5 @@ serve-spec 𝓤 H 𝓜 𝓖 𝓡 =
     (serve-meets 𝓤 H (𝓖 .A) (givenOf 𝓤 H 𝓜 𝓖) (𝓜 .mem) (𝓡 .run) (tablesOf 𝓤 H 𝓜 (tables 𝓤 H 𝓜 𝓡 code.env))
     (cited 𝓤 H (Planned 𝓤 H (𝓖 .A) (𝓜 .mem) (𝓡 .run)) 𝓜 𝓡 code.env #desk·planned planned-def.routine code.calls-desk·planned (planned-thm.met 𝓤 H 𝓜 𝓖 𝓡))
     (cited 𝓤 H (SlotPut 𝓤 H (𝓖 .A) (𝓜 .mem) (𝓡 .run)) 𝓜 𝓡 code.env #desk·slot-put slot-put-def.routine code.calls-desk·slot-put (slot-put-thm.met 𝓤 H 𝓜 𝓖 𝓡))
-    (cited 𝓤 H (Mark 𝓤 H (𝓖 .A) (𝓜 .mem) (𝓡 .run)) 𝓜 𝓡 code.env #marks·mark mark-def.routine code.calls-marks·mark (mark-thm.met 𝓤 H 𝓜 𝓖 𝓡))
-    (cited 𝓤 H (ServedBy 𝓤 H (𝓖 .A) (𝓜 .mem) (𝓡 .run)) 𝓜 𝓡 code.env #plan·served-by served-by-def.routine code.calls-plan·served-by (served-by-thm.met 𝓤 H 𝓜 𝓖 𝓡)))
+    (cited 𝓤 H (Mark 𝓤 H (𝓖 .A) (𝓜 .mem) (𝓡 .run)) 𝓜 𝓡 code.env #used_numbers·mark mark-def.routine code.calls-used-numbers·mark (mark-thm.met 𝓤 H 𝓜 𝓖 𝓡))
+    (cited 𝓤 H (ServedBy 𝓤 H (𝓖 .A) (𝓜 .mem) (𝓡 .run)) 𝓜 𝓡 code.env #desk_rules·served-by served-by-def.routine code.calls-desk-rules·served-by (served-by-thm.met 𝓤 H 𝓜 𝓖 𝓡)))

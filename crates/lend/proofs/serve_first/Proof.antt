@@ -47,7 +47,7 @@ use Rattle.ledger.specs.declared.Taken.{Taken}
 use Rattle.slot.specs.declared.Slot.{Slot}
 use Rattle.slot.proofs.Slot as TSlot
 use Rattle.slot.proofs.Slot.Laws as TSlot′
-use Rattle.plan.specs.Serve.{servedOf, mapServed, deskServed}
+use Rattle.desk_rules.specs.Serve.{servedOf, mapServed, deskServed}
 use Rattle.desk.proofs.SlotLaws.{R, vals, tells, ty-at, slot-makes}
 use Rattle.desk.proofs.Rows.{LedgerR, TakenR, ledger-mach, ledger-vals, ledger-tells, ledger-makes, ledger-typed, taken-vals, taken-tells, taken-makes, taken-typed}
 use Rattle.lend.specs.declared.Lent.{Lent}

@@ -2,7 +2,7 @@
 use mathlib.Core.Path.{_≡_, sym, _∙_}
 use mathlib.Core.Bool.{false}
 use borrow.Author.Needs.{needs}
-use Rattle.entry.specs.Entry.{wordText}
+use Rattle.text_parse.specs.Entry.{wordText}
 use Rattle.likeness.specs.Likeness.{isAlike, anyAlike}
 use Rattle.likeness.proofs.any_alike.Statement.{statement}
 use Rattle.likeness.proofs.any_alike.Tie as tie

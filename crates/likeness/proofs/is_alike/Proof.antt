@@ -3,8 +3,8 @@ use mathlib.Core.Path.{sym, ap, _∙_}
 use lib.ListN.{length}
 use borrow.Author.Needs.{needs}
 use borrow.Author.Tests.{not-true, not-false}
-use Rattle.scan.specs.Scan.{partedHere}
-use Rattle.scan.proofs.ScanLaws.{part-is-rest}
+use Rattle.text_scan.specs.Scan.{partedHere}
+use Rattle.text_scan.proofs.ScanLaws.{part-is-rest}
 use Rattle.likeness.proofs.LikenessLaws.{not-alike, alike-parted}
 use Rattle.likeness.proofs.is_alike.Statement.{statement}
 use Rattle.likeness.proofs.is_alike.Tie as tie

@@ -5,7 +5,7 @@ use lib.Dec.{eqb}
 use borrow.Author.Needs.{needs}
 use borrow.Author.Tests.{eq-eqb, ne-eqb}
 use Rattle.wire.specs.Numbers.{byteAt}
-use Rattle.scan.specs.Scan.{isDigit}
+use Rattle.text_scan.specs.Scan.{isDigit}
 use Rattle.likeness.specs.Likeness.{itemLike}
 use Rattle.likeness.proofs.item_like.Statement.{statement}
 use Rattle.likeness.proofs.item_like.Tie as tie

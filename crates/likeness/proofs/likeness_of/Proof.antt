@@ -5,7 +5,7 @@ use mathlib.Core.List.{List}
 use lib.ListN.{drop}
 use borrow.Author.Needs.{needs}
 use borrow.Author.Tests.{eq-eqb, ne-eqb}
-use Rattle.scan.proofs.ScanLaws.{part-is-rest}
+use Rattle.text_scan.proofs.ScanLaws.{part-is-rest}
 use Rattle.likeness.specs.Likeness.{wordLike, itemLike, gapLike, likenessOf}
 use Rattle.likeness.proofs.likeness_of.Statement.{statement}
 use Rattle.likeness.proofs.likeness_of.Tie as tie

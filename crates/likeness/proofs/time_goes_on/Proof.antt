@@ -2,7 +2,7 @@
 use mathlib.Core.Path.{sym, ap, _∙_}
 use borrow.Author.Needs.{needs}
 use borrow.Author.Tests.{not-true, not-false}
-use Rattle.scan.specs.Scan.{isDigit}
+use Rattle.text_scan.specs.Scan.{isDigit}
 use Rattle.likeness.specs.Likeness.{marksTime, timeGoesOn}
 use Rattle.likeness.proofs.time_goes_on.Statement.{statement}
 use Rattle.likeness.proofs.time_goes_on.Tie as tie

@@ -7,7 +7,7 @@ use Rattle.text.proofs.TextLaws.{number-ends, number-unrolls}
 use Rattle.pen.specs.Pen.{Spot, spot, pushedAll}
 use Rattle.pen.proofs.PenLaws.{pushed-all-append}
 use borrow.Author.Needs.{needs}
-use Prim.Native.Nat.{ℕ, _+_, _/_, _%_}
+use Prim.Native.Nat.{ℕ, _+_, _/_, _%_, _<_}
 use borrow.Fn.Kinds.{In}
 use borrow.Fn.PlainCycle.{Measures, is, falls, and}
 use Rattle.pen.proofs.put_number.Reads as put-number

@@ -6,7 +6,7 @@ use lib.ListN.{length}
 use lib.Dec.{eqb}
 use borrow.Author.Tests.{eqb-false, not-false}
 use Rattle.base.proofs.TestLaws.{or-right}
-use Rattle.marks.specs.Marks.{markedWith}
+use Rattle.used_numbers.specs.Marks.{markedWith}
 use Rattle.verdict.specs.declared.Verdict.{Verdict}
 use Rattle.record.proofs.JudgeLaws.{verdict-answer}
 use Rattle.ledger.specs.Ledger.{added}

@@ -6,7 +6,7 @@ use Rattle.text.specs.declared.Text.{Text}
 use Rattle.text.specs.Text.{pushedAll, numberText}
 use Rattle.text.proofs.TextLaws.{pushed-all-append, number-ends, number-unrolls}
 use borrow.Author.Needs.{needs}
-use Prim.Native.Nat.{ℕ, _+_, _/_, _%_}
+use Prim.Native.Nat.{ℕ, _+_, _/_, _%_, _<_}
 use borrow.Fn.Kinds.{In}
 use borrow.Fn.PlainCycle.{Measures, is, falls, and}
 use Rattle.text.proofs.Text.with_number.Reads as with-number

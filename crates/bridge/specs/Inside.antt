@@ -1,6 +1,0 @@
--- Inner vocabulary: what the desk answers, as `words::settle` takes it.
-use Rattle.ledger.specs.declared.Taken.{Taken}
-use Rattle.plan.specs.declared.Served.{Served}
-
-abbrev pub handedBack : Served → Taken
-handedBack x = record { answer = x .answer; ledger = x .ledger }

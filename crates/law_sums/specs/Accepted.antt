@@ -1,0 +1,53 @@
+-- "An accepted book is one that, taken from an empty ledger and an all-zero map, ends exactly at a record's end with every record accepted"
+-- (01, "Bytes on the wire"), and the accepted events of any reading, with the annex's sums over them (003, 4.3.1).
+use Prim.Native.Nat.{ℕ}
+use mathlib.Core.Path.{_≡_}
+use mathlib.Core.List.{List, [], _∷_, map}
+use mathlib.Core.Bool.{false, _&&_, not, cond}
+use lib.ListN.{replicate}
+use lib.Dec.{eqb}
+use Rattle.base.specs.Lists.{sum, keep}
+use Rattle.wire.specs.Frame.{kindOf}
+use Rattle.codes.specs.Codes.{rowOf}
+use Rattle.annex.specs.Annex.{Event, simple, stepped, shortEvent}
+use Rattle.annex.specs.Figure.{Figure, given}
+use Rattle.used_numbers.specs.Marks.{mapSize}
+use Rattle.fields.specs.Fields.{headIn, simpleIn, stepsIn}
+use Rattle.ledger.specs.Ledger.{emptyLedger}
+use Rattle.ledger.specs.Take.{answerOf}
+use Rattle.records.specs.Records.{isBroken}
+use Rattle.book.specs.Book.{BookState, takeRecord, afterBook}
+
+abbrev pub zeroMap : List ℕ
+zeroMap = replicate mapSize 0
+
+pub record Accepted (book : List ℕ) : Type 0 where
+  pub whole : isBroken book ≡ false
+  pub all : afterBook emptyLedger zeroMap book .refused ≡ 0
+
+-- the event that a record of kind 2 or 3 tells
+abbrev pub eventIn : List ℕ → Event
+eventIn s = cond (eqb (kindOf s) 2) (simple (simpleIn s)) (stepped (headIn s .t0) (stepsIn s))
+
+-- the ledger's row of its type
+abbrev pub rowIn : List ℕ → ℕ
+rowIn s = rowOf (headIn s .typ)
+
+-- the records that are accepted events, among those taken from a state on
+abbrev pub acceptedEvents : BookState → List (List ℕ) → List (List ℕ)
+acceptedEvents st [] = []
+acceptedEvents st (s ∷ ss) =
+    cond (eqb (answerOf (st .ledger) (st .map) s) 0 && not (eqb (kindOf s) 1))
+    (s ∷ acceptedEvents (takeRecord st s) ss)
+    (acceptedEvents (takeRecord st s) ss)
+
+-- the events of a row that are not short: those that count in its cells
+abbrev pub countedIn : ℕ → List (List ℕ) → List (List ℕ)
+countedIn row events = keep (λ (s : List ℕ). eqb (rowIn s) row && not (shortEvent (eventIn s))) events
+
+abbrev pub shortOnes : List (List ℕ) → List (List ℕ)
+shortOnes events = keep (λ (s : List ℕ). shortEvent (eventIn s)) events
+
+-- of a figure the sum over the counted events j of a row: Σ n_jh, and 2 · Σ n_jh · t_jh
+abbrev pub sumOf : Figure → ℕ → ℕ → List (List ℕ) → ℕ
+sumOf x row h events = sum (map (λ (s : List ℕ). given x h (eventIn s)) (countedIn row events))
