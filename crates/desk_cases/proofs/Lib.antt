@@ -1,4 +1,3 @@
 pub mod ArrayLend
 pub mod LendLaws
-pub mod OneOutcome
 pub mod Rows

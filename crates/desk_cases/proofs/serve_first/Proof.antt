@@ -1,4 +1,4 @@
--- `lend::serve_first` meets its contract: a walk of its MIR, by hand, of three calls in a row and no branch. The slots lie in a local; the first of them are lent as a slice for a lifetime of the call of `desk::serve`, and the local comes back with them at the last list.
+-- `serve_first` is safe and ends: a walk of its MIR, by hand, of three calls in a row and no branch. The slots lie in a local; the first of them are lent as a slice for a lifetime of the call of `desk::serve`, and the local comes back with them at the last list.
 -- The map goes to `desk::serve` for good, at its own lifetime, share and ghost name (`gave-slice`). The message is Copy.
 -- Assumes nothing.
 use mathlib.Core.Path.{_≡_, refl, sym, _∙_, ap, subst}
@@ -8,7 +8,7 @@ use mathlib.Core.List.{List, [], _∷_, _++_}
 use lib.ListN.{length, take, drop as drop-list}
 use mir.Syntax.{named, w64}
 use mir.Val.{Val, vint}
-use base.Logic.{SProp, ent, emp, via, fst∗, snd∗, exE, id⊢}
+use base.Logic.{SProp, ent, emp, sep, emp∗, comm∗, via, fst∗, snd∗, exE, id⊢}
 use base.Fml.{Lft, GName, Share, Fml, ftrue, fat, flft}
 use prog.Wp.{Heap, Calls, Loops, WpFn, Tables}
 use types.Kit.{Given, ‵, raw, given, _⊛_, some, later, ⋆, _$_, _∵_, !, qed, by, move, drop, group, use0, use1, use3, split, join, learn, pick, rewrite, fsplit, fjoin, feqL, suffices, frame, await, done}
@@ -43,35 +43,35 @@ use denote.Triple.Call.{calls-at}
 use denote.Triple.Clauses.{ensured, lasts}
 use denote.Triple.Table.{entered, cited}
 use Rattle.ledger.specs.declared.Ledger.{Ledger}
-use Rattle.ledger.specs.declared.Taken.{Taken}
+use Rattle.desk_rules.specs.declared.Served.{Served}
 use Rattle.slot.specs.declared.Slot.{Slot}
 use Rattle.slot.proofs.Slot as TSlot
 use Rattle.slot.proofs.Slot.Laws as TSlot′
 use Rattle.desk_rules.specs.Serve.{servedOf, mapServed, deskServed}
 use Rattle.desk.proofs.SlotLaws.{R, vals, tells, ty-at, slot-makes}
-use Rattle.desk.proofs.Rows.{LedgerR, TakenR, ledger-mach, ledger-vals, ledger-tells, ledger-makes, ledger-typed, taken-vals, taken-tells, taken-makes, taken-typed}
-use Rattle.lend.specs.declared.Lent.{Lent}
-use Rattle.lend.proofs.Rows.{LentR, lent-mach, lent-vals, lent-tells, lent-makes, lent-typed}
+use Rattle.desk.proofs.Rows.{LedgerR, ServedR, ledger-mach, ledger-vals, ledger-tells, ledger-makes, ledger-typed, served-vals, served-tells, served-makes, served-typed}
+use Rattle.desk_cases.specs.declared.Lent.{Lent}
+use Rattle.desk_cases.proofs.Rows.{LentR, lent-mach, lent-vals, lent-tells, lent-makes, lent-typed}
 use Rattle.desk.proofs.ArrayLend.{cell-in, cell-out}
-use Rattle.lend.proofs.ArrayLend.{Kept, lends-first, first-back}
-use Rattle.lend.proofs.LendLaws.{min-within, length-first, served-first, map-first}
-use Rattle.lend.proofs.at_most_held as at-most
-use Rattle.lend.proofs.at_most_held.Symbol as at-most-def
-use Rattle.lend.proofs.at_most_held.Symbol.{name as #lend·at-most-held}
-use Rattle.lend.proofs.at_most_held.Met as at-most-thm
+use Rattle.desk_cases.proofs.ArrayLend.{Kept, lends-first, first-back}
+use Rattle.desk_cases.proofs.LendLaws.{min-within, length-first}
+use Rattle.desk_cases.proofs.at_most_held as at-most
+use Rattle.desk_cases.proofs.at_most_held.Symbol as at-most-def
+use Rattle.desk_cases.proofs.at_most_held.Symbol.{name as #desk_cases·at-most-held}
+use Rattle.desk_cases.proofs.at_most_held.Met as at-most-thm
 use Rattle.desk.proofs.serve as serve
 use Rattle.desk.proofs.serve.Symbol as serve-def
 use Rattle.desk.proofs.serve.Symbol.{name as #desk·serve}
 use Rattle.desk.proofs.serve.Met as serve-thm
-use Rattle.lend.proofs.lent_of as lent-of
-use Rattle.lend.proofs.lent_of.Symbol as lent-of-def
-use Rattle.lend.proofs.lent_of.Symbol.{name as #lend·lent-of}
-use Rattle.lend.proofs.lent_of.Met as lent-of-thm
-use Rattle.lend.proofs.serve_first.Key.{name as #lend·serve-first}
-use Rattle.lend.proofs.serve_first as serve-first
-use Rattle.lend.proofs.serve_first.Statement as stated
-use Rattle.lend.proofs.serve_first.Code as code
-use Rattle.lend.proofs.serve_first.Code.Mir as body
+use Rattle.desk_cases.proofs.lent_of as lent-of
+use Rattle.desk_cases.proofs.lent_of.Symbol as lent-of-def
+use Rattle.desk_cases.proofs.lent_of.Symbol.{name as #desk_cases·lent-of}
+use Rattle.desk_cases.proofs.lent_of.Met as lent-of-thm
+use Rattle.desk_cases.proofs.serve_first.Key.{name as #desk_cases·serve-first}
+use Rattle.desk_cases.proofs.serve_first as serve-first
+use Rattle.desk_cases.proofs.serve_first.Statement as stated
+use Rattle.desk_cases.proofs.serve_first.Code as code
+use Rattle.desk_cases.proofs.serve_first.Code.Mir as body
 
 abbrev R33 : RattleType
 R33 = Array R 33
@@ -84,6 +84,10 @@ amach ys = only (avals ys)
 
 abbrev stayed : Stays (serve-first.ended .signature .params) (serve-first.ended .kept)
 stayed = (stay-none (λ _. R33) yes, (stay-none (λ _. usize) yes, (stay-none (λ _. LedgerR) yes, (gave-slice (0 ∷ []) tt (plain (λ _. u8)), (stay-none-slice (1 ∷ []) tt (plain (λ _. u8)) yes, tt)))))
+
+-- a contract that says nothing is met
+said-nothing : {M : Type 1} (𝓤 : URA M) (P : SProp 𝓤) → ent 𝓤 P (sep 𝓤 P (emp 𝓤))
+said-nothing 𝓤 P = via 𝓤 (sep 𝓤 (emp 𝓤) P) (emp∗ 𝓤 P) (comm∗ 𝓤 (emp 𝓤) P)
 
 module _ {M : Type 1} (𝓤 : URA M) (H : Heap 𝓤) (A : Atoms 𝓤) (mem : Memory → SProp 𝓤) (run : Routine → Fun 𝓤) where
   -- the contracts that the proof cites
@@ -100,8 +104,8 @@ module _ {M : Type 1} (𝓤 : URA M) (H : Heap 𝓤) (A : Atoms 𝓤) (mem : Mem
   at-most-said : (n : ℕ) (r : ℕ) → ent 𝓤 (ensured 𝓤 H A at-most.ended (at-most.clauses 𝓤 H A mem run) tt (n, tt) tt r) (fact 𝓤 (r ≡ min n 33))
   at-most-said n r = exE 𝓤 _ (λ ws. snd∗ 𝓤 (sem 𝓤 H A (lasts at-most.ended tt (n, tt) ws)) (fact 𝓤 (r ≡ min n 33)))
 
-  lent-said : (ys : List Slot) (t : Taken) (r : Lent) → ent 𝓤 (ensured 𝓤 H A lent-of.ended (lent-of.clauses 𝓤 H A mem run) tt (ys, (t, tt)) tt r) (fact 𝓤 (r ≡ record { slots = ys; taken = t }))
-  lent-said ys t r = exE 𝓤 _ (λ ws. snd∗ 𝓤 (sem 𝓤 H A (lasts lent-of.ended tt (ys, (t, tt)) ws)) (fact 𝓤 (r ≡ record { slots = ys; taken = t })))
+  lent-said : (ys : List Slot) (t : Served) (r : Lent) → ent 𝓤 (ensured 𝓤 H A lent-of.ended (lent-of.clauses 𝓤 H A mem run) tt (ys, (t, tt)) tt r) (fact 𝓤 (r ≡ record { slots = ys; served = t }))
+  lent-said ys t r = exE 𝓤 _ (λ ws. snd∗ 𝓤 (sem 𝓤 H A (lasts lent-of.ended tt (ys, (t, tt)) ws)) (fact 𝓤 (r ≡ record { slots = ys; served = t })))
 
 module _ {M : Type 1} (𝓤 : URA M) (H : Heap 𝓤) (A : Atoms 𝓤) (W : Given 𝓤 H A) (mem : Memory → SProp 𝓤) (run : Routine → Fun 𝓤) (κ₀ κ₁ : Lft) (q₀ q₁ : Share) (xs : List Slot) (n : ℕ) (l : Ledger) (m s : RefT (List ℕ))
     (ga : Is R33 xs (avals xs)) (n-fits : n < 2 ^ 64) (gl : Is LedgerR l (ledger-vals l)) (room₀ : Room u8 (length (m .now))) (room₁ : Room u8 (length (s .now))) where
@@ -157,11 +161,11 @@ module _ {M : Type 1} (𝓤 : URA M) (H : Heap 𝓤) (A : Atoms 𝓤) (W : Given
   v b = sliceVal (b, 0) (length ys)
 
   -- what the desk answers, and the result where zs is what the lent slots have come to
-  abbrev t : Taken
+  abbrev t : Served
   t = servedOf l (m .now) ys (s .now)
 
   abbrev lent : List Slot → Lent
-  lent zs = record { slots = zs ++ drop-list k xs; taken = t }
+  lent zs = record { slots = zs ++ drop-list k xs; served = t }
 
   abbrev Post : Val → SProp 𝓤
   Post = walkOf 𝓤 H A serve-first.ended stayed (serve-first.clauses 𝓤 H A mem run) .post (((κ₀, (κ₁, tt)), (q₀, (q₁, tt)), tt, a, at), tt)
@@ -171,7 +175,7 @@ module _ {M : Type 1} (𝓤 : URA M) (H : Heap 𝓤) (A : Atoms 𝓤) (W : Given
   exits cs zs e₀ e₁ n₀ g =
       qed W (‵ (flft κ₀ q₀) ∷ ‵ (flft κ₁ q₁) ∷ ‵ (finally u8 (m .name) cs) ∷ ‵ Own₁ ∷ []) ∵
       suffices ! _ (ends-at 𝓤 H A serve-first.ended stayed (serve-first.clauses 𝓤 H A mem run) W (((κ₀, (κ₁, tt)), (q₀, (q₁, tt)), tt, a, at), tt) (lent-mach (lent zs)) (lent zs) (tt, (tt, (tt, (cs, (tt, tt))))) (tt, (tt, (tt, (n₀, (tt, tt)))))) $
-      says ! (ap lent e₁ ∙ served-first xs n l (m .now) (s .now) full, e₀ ∙ map-first xs n l (m .now) (s .now) full) $
+      suffices ! _ (said-nothing 𝓤 _) $
       nothing ! $ move ! (2 ∷ 0 ∷ []) $ join ! $ move ! (1 ∷ 0 ∷ []) $ join ! $ frame ! $ nothing ! $ move ! (2 ∷ 0 ∷ []) $ fjoin ! $ move ! (1 ∷ 0 ∷ []) $ fjoin ! $ owned ! LedgerR (Is LedgerR) (ledger-makes 𝓤 H A W) l _ gl $ fjoin ! $ owned ! usize (Is usize) (uint-makes 𝓤 H A W w64) n _ (refl, n-fits) $ fjoin ! $ owned ! R33 (Is R33) (array-makes 𝓤 H A W R (slot-makes 𝓤 H A W) 33) xs _ ga $ fjoin ! $ frame ! $ owned ! LentR (Is LentR) (lent-makes 𝓤 H A W) (lent zs) _ g $ done !
 
   -- what each callee's triple binds outside, and that the caller has what it asks
@@ -190,13 +194,13 @@ module _ {M : Type 1} (𝓤 : URA M) (H : Heap 𝓤) (A : Atoms 𝓤) (W : Given
       qed W (‵ (flft κ₀ q₀) ∷ ‵ (flft (ν ∷ []) fullShare) ∷ ‵ (flft κ₁ q₁) ∷ ‵ Own₀ ∷ ‵ (MutSlice (named 1) (ν ∷ []) R .own (d b γ) (v b ∷ [])) ∷ ‵ Own₁ ∷ []) ∵ nothing ! $ move ! (3 ∷ 0 ∷ []) $ join ! $ move ! (2 ∷ 0 ∷ []) $ join ! $ move ! (1 ∷ 0 ∷ []) $ join ! $ nothing ! $ move ! (4 ∷ 0 ∷ []) $ fjoin ! $ move ! (3 ∷ 0 ∷ []) $ fjoin ! $ move ! (2 ∷ 0 ∷ []) $ fjoin ! $ owned ! LedgerR (Is LedgerR) (ledger-makes 𝓤 H A W) l _ gl $ fjoin ! $ move ! (1 ∷ 0 ∷ []) $ join ! $ frame ! $ done !
 
   abbrev to-lent-of : List Slot → LentOf 𝓤 H A mem run .Ghost
-  to-lent-of zs = ((tt, tt, tt, (zs, (t, tt)), (avals zs, (taken-vals t, tt))), tt)
+  to-lent-of zs = ((tt, tt, tt, (zs, (t, tt)), (avals zs, (served-vals t, tt))), tt)
 
-  goes-lent-of : (zs : List Slot) → Is R33 zs (avals zs) → Is TakenR t (taken-vals t) → ent 𝓤 (⋆ 𝓤 H A []) (LentOf 𝓤 H A mem run .pre (to-lent-of zs))
+  goes-lent-of : (zs : List Slot) → Is R33 zs (avals zs) → Is ServedR t (served-vals t) → ent 𝓤 (⋆ 𝓤 H A []) (LentOf 𝓤 H A mem run .pre (to-lent-of zs))
   goes-lent-of zs g gt =
-      qed W [] ∵ nothing ! $ nothing ! $ owned ! TakenR (Is TakenR) (taken-makes 𝓤 H A W) t _ gt $ fjoin ! $ owned ! R33 (Is R33) (array-makes 𝓤 H A W R (slot-makes 𝓤 H A W) 33) zs _ g $ fjoin ! $ move ! (1 ∷ 0 ∷ []) $ join ! $ frame ! $ done !
+      qed W [] ∵ nothing ! $ nothing ! $ owned ! ServedR (Is ServedR) (served-makes 𝓤 H A W) t _ gt $ fjoin ! $ owned ! R33 (Is R33) (array-makes 𝓤 H A W R (slot-makes 𝓤 H A W) 33) zs _ g $ fjoin ! $ move ! (1 ∷ 0 ∷ []) $ join ! $ frame ! $ done !
 
-  module _ (C : Calls 𝓤 H) (Λ : Loops 𝓤 H) (fm : FmC 𝓤 H (W .laws) C) (known-at-most : Triple 𝓤 (C #lend·at-most-held) (AtMost 𝓤 H A mem run)) (known-serve : Triple 𝓤 (C #desk·serve) (Serve 𝓤 H A mem run)) (known-lent-of : Triple 𝓤 (C #lend·lent-of) (LentOf 𝓤 H A mem run)) where
+  module _ (C : Calls 𝓤 H) (Λ : Loops 𝓤 H) (fm : FmC 𝓤 H (W .laws) C) (known-at-most : Triple 𝓤 (C #desk_cases·at-most-held) (AtMost 𝓤 H A mem run)) (known-serve : Triple 𝓤 (C #desk·serve) (Serve 𝓤 H A mem run)) (known-lent-of : Triple 𝓤 (C #desk_cases·lent-of) (LentOf 𝓤 H A mem run)) where
     walk : ent 𝓤 (onEntry 𝓤 H A serve-first.signature (κ₀, (κ₁, tt)) (q₀, (q₁, tt)) a at) (WpFn 𝓤 H C Λ code.function (amach xs ∷ vint w64 n ∷ ledger-mach l ∷ v₀ ∷ v₁ ∷ []) Post)
     walk =
         qed W ((‵ (flft κ₀ q₀) ⊛ ‵ (flft κ₁ q₁) ⊛ ‵ ftrue) ∷ ‵ (owns (R33 ∷ usize ∷ LedgerR ∷ MutSlice (named 0) κ₀ u8 ∷ ShrSlice (named 1) κ₁ u8 ∷ []) a at) ∷ []) ∵
@@ -222,12 +226,12 @@ module _ {M : Type 1} (𝓤 : URA M) (H : Heap 𝓤) (A : Atoms 𝓤) (W : Given
         lft-new ! tt (λ ν. move ! (1 ∷ []) $ use1 W (later (some (λ (γ : GName). ‵ (MutSlice (named 1) (ν ∷ []) R .own (d l₆ γ) (v l₆ ∷ [])) ⊛ ‵ (Kept R tt 33 𝓤 H A W l₆ 0 (ν ∷ []) xs k γ)))) (lends-first R tt 33 𝓤 H A W l₆ 0 (named 1) (ν ∷ []) xs k room) $ await ! tt $ pick ! (λ γ. split ! $
         move ! (6 ∷ []) $ use1 W (‵ Own₁ ⊛ ‵ Own₁) (shr-slice-copy 𝓤 H A W (named 1) κ₁ u8 .twice s (v₁ ∷ [])) $ split ! $ move ! (5 ∷ 4 ∷ 6 ∷ 7 ∷ 2 ∷ 0 ∷ []) $ group ! 6 $ use1 W (raw (Serve 𝓤 H A mem run .pre (to-serve ν l₆ γ))) (goes-serve ν l₆ γ) $
         calls-at ! fm (Serve 𝓤 H A mem run) known-serve (to-serve ν l₆ γ) (and-then ! (load ! (from ! (stop !)) (look ! 22 refl)) (and-then ! (load ! (from ! (stop !)) (look ! 9 refl)) (and-then ! (load ! (from ! (stop !)) (look ! 5 refl)) (and-then ! (load ! (from ! (stop !)) (look ! 18 refl)) (no-more !))))) (λ w₂.
-        use1 W (later (some (λ (r : Taken). ((‵ (flft κ₀ q₀) ⊛ ‵ (flft (ν ∷ []) fullShare) ⊛ ‵ (flft κ₁ q₁) ⊛ ‵ ftrue) ⊛ ‵ (TakenR .own r (w₂ ∷ []))) ⊛ raw (ensured 𝓤 H A serve.ended (serve.clauses 𝓤 H A mem run) ((to-serve ν l₆ γ) .0 .0) ((to-serve ν l₆ γ) .0 .3) tt r)))) (id⊢ 𝓤 _) $ await ! tt $ pick ! (λ r₂.
+        use1 W (later (some (λ (r : Served). ((‵ (flft κ₀ q₀) ⊛ ‵ (flft (ν ∷ []) fullShare) ⊛ ‵ (flft κ₁ q₁) ⊛ ‵ ftrue) ⊛ ‵ (ServedR .own r (w₂ ∷ []))) ⊛ raw (ensured 𝓤 H A serve.ended (serve.clauses 𝓤 H A mem run) ((to-serve ν l₆ γ) .0 .0) ((to-serve ν l₆ γ) .0 .3) tt r)))) (id⊢ 𝓤 _) $ await ! tt $ pick ! (λ r₂.
         split ! $ move ! (1 ∷ []) $ use1 W (some (λ (zs : Unit {0} × (List ℕ × (List Slot × (Unit {0} × Unit {0})))). ‵ (lasts serve.ended ((to-serve ν l₆ γ) .0 .0) ((to-serve ν l₆ γ) .0 .3) zs) ⊛ raw (fact 𝓤 ((r₂ ≡ t) × (zs .1 .0 ≡ mapServed l (m .now) ys (s .now)) × (zs .1 .1 .0 ≡ deskServed l (m .now) ys (s .now)))))) (id⊢ 𝓤 _) $ pick ! (λ zs.
         split ! $ move ! (1 ∷ []) $ heard ! ((r₂ ≡ t) × (zs .1 .0 ≡ mapServed l (m .now) ys (s .now)) × (zs .1 .1 .0 ≡ deskServed l (m .now) ys (s .now))) (λ e₂.
         fsplit ! $ drop ! $ fsplit ! $ fsplit ! $ move ! (1 ∷ []) $ feqL ! (λ n₀. move ! (1 ∷ []) $ fsplit ! $ fsplit ! $ move ! (1 ∷ []) $ drop ! $ move ! (1 ∷ []) $ drop ! $
-        move ! (2 ∷ []) $ split ! $ move ! (1 ∷ []) $ rewrite ! 0 (λ (r : Taken). ‵ (TakenR .own r (w₂ ∷ []))) (e₂ .0) refl $ facts ! TakenR (Is TakenR) (shows 𝓤 H A TakenR) t (w₂ ∷ []) (λ is₂.
-        land ! (from ! (stop !)) (init ! 15 refl (taken-typed 𝓤 H A W t _ is₂)) $ rewrite ! 15 (λ (u : Val). ‵ (fat fullShare (ty-at 8 body.locals) l₈ 0 u)) (ap only (taken-tells t _ is₂)) refl $
+        move ! (2 ∷ []) $ split ! $ move ! (1 ∷ []) $ rewrite ! 0 (λ (r : Served). ‵ (ServedR .own r (w₂ ∷ []))) (e₂ .0) refl $ facts ! ServedR (Is ServedR) (shows 𝓤 H A ServedR) t (w₂ ∷ []) (λ is₂.
+        land ! (from ! (stop !)) (init ! 15 refl (served-typed 𝓤 H A W t _ is₂)) $ rewrite ! 15 (λ (u : Val). ‵ (fat fullShare (ty-at 8 body.locals) l₈ 0 u)) (ap only (served-tells t _ is₂)) refl $
         split ! $ move ! (1 ∷ []) $ split ! $ move ! (1 ∷ []) $ split ! $ move ! (1 ∷ []) $ drop ! $
         -- the local has the slots again
         move ! (1 ∷ []) $ lft-end ! tt $ move ! (0 ∷ 6 ∷ 3 ∷ []) $ use3 W (later (‵ (partAt R33 fullShare (zs .1 .1 .0 ++ drop-list k xs) l₆ 0))) (first-back R tt 33 𝓤 H A W l₆ 0 (ν ∷ []) γ xs k (zs .1 .1 .0) full) $ await ! tt $
@@ -235,7 +239,7 @@ module _ {M : Type 1} (𝓤 : URA M) (H : Heap 𝓤) (A : Atoms 𝓤) (W : Given
         use1 W (‵ (fat fullShare (ty-at 6 body.locals) l₆ 0 (amach (zs .1 .1 .0 ++ drop-list k xs)))) (W .laws .raw-at fullShare (ty-at 6 body.locals) l₆ 0 (amach (zs .1 .1 .0 ++ drop-list k xs))) $
         assigns ! (of-opd ! (load ! (from ! (stop !)) (look ! 0 refl))) (from ! (stop !)) (init ! 5 refl (typed (zs .1 .1 .0 ++ drop-list k xs) gz .0)) $
         -- `lent_of`
-        use0 W (raw (LentOf 𝓤 H A mem run .pre (to-lent-of (zs .1 .1 .0 ++ drop-list k xs)))) (goes-lent-of (zs .1 .1 .0 ++ drop-list k xs) gz (subst (Is TakenR t) (taken-tells t _ is₂) is₂)) $
+        use0 W (raw (LentOf 𝓤 H A mem run .pre (to-lent-of (zs .1 .1 .0 ++ drop-list k xs)))) (goes-lent-of (zs .1 .1 .0 ++ drop-list k xs) gz (subst (Is ServedR t) (served-tells t _ is₂) is₂)) $
         calls-at ! fm (LentOf 𝓤 H A mem run) known-lent-of (to-lent-of (zs .1 .1 .0 ++ drop-list k xs)) (and-then ! (load ! (from ! (stop !)) (look ! 6 refl)) (and-then ! (load ! (from ! (stop !)) (look ! 16 refl)) (no-more !))) (λ w₃.
         use1 W (later (some (λ (r : Lent). (‵ ftrue ⊛ ‵ (LentR .own r (w₃ ∷ []))) ⊛ raw (ensured 𝓤 H A lent-of.ended (lent-of.clauses 𝓤 H A mem run) ((to-lent-of (zs .1 .1 .0 ++ drop-list k xs)) .0 .0) ((to-lent-of (zs .1 .1 .0 ++ drop-list k xs)) .0 .3) tt r)))) (id⊢ 𝓤 _) $ await ! tt $ pick ! (λ r₃.
         split ! $ move ! (1 ∷ []) $ use1 W (raw (fact 𝓤 (r₃ ≡ lent (zs .1 .1 .0)))) (lent-said 𝓤 H A mem run (zs .1 .1 .0 ++ drop-list k xs) t r₃) $ heard ! (r₃ ≡ lent (zs .1 .1 .0)) (λ e₃. split ! $ drop ! $ rewrite ! 0 (λ (r : Lent). ‵ (LentR .own r (w₃ ∷ []))) e₃ refl $ facts ! LentR (Is LentR) (shows 𝓤 H A LentR) (lent (zs .1 .1 .0)) (w₃ ∷ []) (λ is₃.
@@ -245,9 +249,9 @@ module _ {M : Type 1} (𝓤 : URA M) (H : Heap 𝓤) (A : Atoms 𝓤) (W : Given
 
 module _ {M : Type 1} (𝓤 : URA M) (H : Heap 𝓤) (A : Atoms 𝓤) (W : Given 𝓤 H A) (mem : Memory → SProp 𝓤) (run : Routine → Fun 𝓤) where
   serve-first-walks : (C : Calls 𝓤 H) (Λ : Loops 𝓤 H) → FmC 𝓤 H (W .laws) C
-      → Triple 𝓤 (C #lend·at-most-held) (AtMost 𝓤 H A mem run)
+      → Triple 𝓤 (C #desk_cases·at-most-held) (AtMost 𝓤 H A mem run)
       → Triple 𝓤 (C #desk·serve) (Serve 𝓤 H A mem run)
-      → Triple 𝓤 (C #lend·lent-of) (LentOf 𝓤 H A mem run)
+      → Triple 𝓤 (C #desk_cases·lent-of) (LentOf 𝓤 H A mem run)
       → Walks 𝓤 H A serve-first.ended stayed (WpFn 𝓤 H C Λ code.function) (serve-first.clauses 𝓤 H A mem run)
   serve-first-walks C Λ fm known-at-most known-serve known-lent-of =
       walked 𝓤 H A serve-first.ended stayed (serve-first.clauses 𝓤 H A mem run) (WpFn 𝓤 H C Λ code.function)
@@ -256,9 +260,9 @@ module _ {M : Type 1} (𝓤 : URA M) (H : Heap 𝓤) (A : Atoms 𝓤) (W : Given
       (λ κs qs bounds a g are. via 𝓤 _ (fst∗ 𝓤 _ (emp 𝓤)) (walk 𝓤 H A W mem run (κs .0) (κs .1 .0) (qs .0) (qs .1 .0) (a .0) (a .1 .0) (a .1 .1 .0) (a .1 .1 .1 .0) (a .1 .1 .1 .1 .0) (are .0) (are .1 .0 .1) (are .1 .1 .0) (are .1 .1 .1 .0 .0 .1) (are .1 .1 .1 .1 .0 .0 .1) C Λ fm known-at-most known-serve known-lent-of))
 
 serve-first-meets : {M : Type 1} (𝓤 : URA M) (H : Heap 𝓤) (A : Atoms 𝓤) (W : Given 𝓤 H A) (mem : Memory → SProp 𝓤) (run : Routine → Fun 𝓤) (𝓣 : Tables 𝓤 H)
-    → Triple 𝓤 (𝓣 .C #lend·at-most-held) (AtMost 𝓤 H A mem run)
+    → Triple 𝓤 (𝓣 .C #desk_cases·at-most-held) (AtMost 𝓤 H A mem run)
     → Triple 𝓤 (𝓣 .C #desk·serve) (Serve 𝓤 H A mem run)
-    → Triple 𝓤 (𝓣 .C #lend·lent-of) (LentOf 𝓤 H A mem run)
+    → Triple 𝓤 (𝓣 .C #desk_cases·lent-of) (LentOf 𝓤 H A mem run)
     → Meets 𝓤 H A serve-first.signature (WpFn 𝓤 H (𝓣 .C) (𝓣 .Λ) code.function) (serve-first.spec 𝓤 H A mem run)
 serve-first-meets 𝓤 H A W mem run 𝓣 known-at-most known-serve known-lent-of =
     walk-meets 𝓤 H A serve-first.ended stayed W
@@ -270,8 +274,8 @@ pub serve-first-spec : {M : Type 1} → stated.statement M
 unfolding code.routine tablesOf
 serve-first-spec 𝓤 H 𝓜 𝓖 𝓡 =
     entered 𝓤 H (tripleOf 𝓤 H (𝓖 .A) serve-first.signature (serve-first.spec 𝓤 H (𝓖 .A) (𝓜 .mem) (𝓡 .run)))
-    (tables 𝓤 H 𝓜 𝓡 code.env .C) (tables 𝓤 H 𝓜 𝓡 code.env .Λ) #lend·serve-first code.function (code.unfolded 𝓤 H 𝓜 𝓡)
+    (tables 𝓤 H 𝓜 𝓡 code.env .C) (tables 𝓤 H 𝓜 𝓡 code.env .Λ) #desk_cases·serve-first code.function (code.unfolded 𝓤 H 𝓜 𝓡)
     (serve-first-meets 𝓤 H (𝓖 .A) (givenOf 𝓤 H 𝓜 𝓖) (𝓜 .mem) (𝓡 .run) (tablesOf 𝓤 H 𝓜 (tables 𝓤 H 𝓜 𝓡 code.env))
-    (cited 𝓤 H (AtMost 𝓤 H (𝓖 .A) (𝓜 .mem) (𝓡 .run)) 𝓜 𝓡 code.env #lend·at-most-held at-most-def.routine code.calls-lend·at-most-held (at-most-thm.met 𝓤 H 𝓜 𝓖 𝓡))
+    (cited 𝓤 H (AtMost 𝓤 H (𝓖 .A) (𝓜 .mem) (𝓡 .run)) 𝓜 𝓡 code.env #desk_cases·at-most-held at-most-def.routine code.calls-desk-cases·at-most-held (at-most-thm.met 𝓤 H 𝓜 𝓖 𝓡))
     (cited 𝓤 H (Serve 𝓤 H (𝓖 .A) (𝓜 .mem) (𝓡 .run)) 𝓜 𝓡 code.env #desk·serve serve-def.routine code.calls-desk·serve (serve-thm.met 𝓤 H 𝓜 𝓖 𝓡))
-    (cited 𝓤 H (LentOf 𝓤 H (𝓖 .A) (𝓜 .mem) (𝓡 .run)) 𝓜 𝓡 code.env #lend·lent-of lent-of-def.routine code.calls-lend·lent-of (lent-of-thm.met 𝓤 H 𝓜 𝓖 𝓡)))
+    (cited 𝓤 H (LentOf 𝓤 H (𝓖 .A) (𝓜 .mem) (𝓡 .run)) 𝓜 𝓡 code.env #desk_cases·lent-of lent-of-def.routine code.calls-desk-cases·lent-of (lent-of-thm.met 𝓤 H 𝓜 𝓖 𝓡)))

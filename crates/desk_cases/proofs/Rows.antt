@@ -10,9 +10,9 @@ use types.Kit.{Given}
 use denote.RattleType.{RattleType}
 use denote.Laws.{Is, Tells, Makes}
 use denote.Struct.Laws as LL
-use Rattle.lend.specs.declared.Lent.{Lent}
-use Rattle.lend.proofs.Lent as TLent
-use Rattle.lend.proofs.Lent.Laws as TLent′
+use Rattle.desk_cases.specs.declared.Lent.{Lent}
+use Rattle.desk_cases.proofs.Lent as TLent
+use Rattle.desk_cases.proofs.Lent.Laws as TLent′
 
 abbrev pub LentR : RattleType
 LentR = TLent.the-row

@@ -1,7 +1,7 @@
 -- Which number is the smaller is what the branch asks. Assumes nothing.
-use Rattle.lend.proofs.LendLaws.{min-below, min-above}
-use Rattle.lend.proofs.at_most_held.Statement.{statement}
-use Rattle.lend.proofs.at_most_held.Tie as tie
+use Rattle.desk_cases.proofs.LendLaws.{min-below, min-above}
+use Rattle.desk_cases.proofs.at_most_held.Statement.{statement}
+use Rattle.desk_cases.proofs.at_most_held.Tie as tie
 
 returns : tie.Need-returns
 returns c = min-below (c .before .args .n) 33 (c .if1 .taken)

@@ -1,0 +1,643 @@
+// Run cases of the desk from a text, a line a case. What is expected stands in the file stdout, worked out by hand from document 01.
+//
+// What is lent to the desk:
+//   sheet YEAR | NN VN VVN      a ledger that has taken this sheet, an all-zero map, and a desk of 32 free slots
+//   empty                       the same without a sheet
+//   ledger EVENTS SHORT         the ledger has so many events and short events
+//   map BYTES                   the map has so many bytes, at most 8193
+//   used AT VALUE               this byte of the map has this value
+//   desk SLOTS                  the desk has so many slots, at most 33
+//   slot AT | NUMBER TYPE VOLTAGE CAUSE | T0 LAST STEPS | largest counts NN VN VVN | half minutes NN VN VVN
+// A message to the desk:
+//   open NUMBER TYPE VOLTAGE CAUSE | T0
+//   step NUMBER ORDINAL | TIME | NN VN VVN
+//   close NUMBER STEPS
+//   hex BYTES                   these bytes, as in docs/TEXT.md
+//   nothing                     no bytes
+// A record to the book entry, with the same ledger and map:
+//   stepped ..                  as in docs/TEXT.md
+// What is looked at:
+//   look AT                     a slot: number, T0, last time, steps, largest counts and half minutes of NN, VN and VVN
+//   row TYPE                    events, short events, and customers and half minutes of the type's row on NN, VN and VVN
+//   customers TYPE, halves TYPE     those of NN alone
+//   byte AT                     a byte of the map
+//
+// Before a line may stand a name: then the name and the answer are printed, or what is looked at. A slot's answer is that to a step of number 9, ordinal
+// 1, at time 0, nobody off: 8 at a sound desk where 9 is not open.
+//   NAME: LINE                  a trial: afterwards all is as it was
+//   NAME:= LINE                 what the line does stays done, as without a name
+//   NAME:+ LINE                 the same, and the printed line goes on with the next one's
+//   -- WORDS                    a heading, printed as it is
+// A line that begins with # and a line of no bytes are passed over. A line that is none of these is printed.
+ghost use mathlib.Core.Path.{_≡_};
+ghost use Prim.Native.Nat.{min, _<_};
+ghost use lib.ListN.{length};
+use annex::Customers;
+use annex::Figures;
+use annex::HalfMinutes;
+use desk_rules::Served;
+use fields::Head;
+use ledger::Cell;
+use ledger::Ledger;
+use libc::STDIN_FILENO;
+use libc::STDOUT_FILENO;
+use slot::Slot;
+
+// ---- what is printed
+
+fn word(text: &[u8]) {
+    io::write_all(STDOUT_FILENO, text);
+}
+
+fn number(n: u64) {
+    word(b" ");
+    io::print_decimal(STDOUT_FILENO, n);
+}
+
+// ---- numbers of a line
+
+// The k-th number of a line stands at place k, from 1 on; how many there are, and whether the last one may go on.
+struct Numbers {
+    values: [u64; 16],
+    count: usize,
+    open: bool,
+}
+
+fn with_digit(v: u64, digit: u8) -> u64 {
+    if v < 1844674407370955161 {
+        return v * 10 + (digit % 10) as u64;
+    }
+    if v == 1844674407370955161 {
+        return v * 10 + (digit % 6) as u64;
+    }
+    v
+}
+
+fn with_byte(n: Numbers, b: u8) -> Numbers {
+    let mut values = n.values;
+    let mut count = n.count;
+    if b < 48 {
+        return Numbers {
+            values,
+            count,
+            open: false,
+        };
+    }
+    if 57 < b {
+        return Numbers {
+            values,
+            count,
+            open: false,
+        };
+    }
+    if !n.open {
+        count = count % 15 + 1;
+    }
+    if count < 16 {
+        values[count] = with_digit(values[count], b - 48);
+    }
+    Numbers {
+        values,
+        count,
+        open: true,
+    }
+}
+
+fn numbers_in(line: &[u8]) -> Numbers {
+    let mut n = Numbers {
+        values: [0; 16],
+        count: 0,
+        open: false,
+    };
+    let mut i = 0;
+    while i < line.len() {
+        n = with_byte(n, line[i]);
+        i += 1;
+    }
+    n
+}
+
+// Where a byte first stands in a line; the line's end where it does not.
+fn place_of(line: &[u8], byte: u8) -> usize {
+    let mut end = 0;
+    while end < line.len() {
+        if line[end] == byte {
+            return end;
+        }
+        end += 1;
+    }
+    end
+}
+
+// ---- lending
+
+// The slots of a desk and one more, so that a desk too long can be lent too.
+const HELD: usize = 33;
+
+// The slots afterwards, and what the desk answered.
+struct Lent {
+    slots: [Slot; 33],
+    served: Served,
+}
+
+// The two put together.
+fn lent_of(slots: [Slot; 33], served: Served) -> Lent
+    ensures { λ r. ⌜ r ≡ record { slots = slots; served = served } ⌝ }
+{
+    Lent { slots, served }
+}
+
+// The number, at most the slots that are held.
+fn at_most_held(n: usize) -> usize
+    ensures { λ r. ⌜ r ≡ min n 33 ⌝ }
+{
+    if n < HELD {
+        return n;
+    }
+    HELD
+}
+
+// One message to the desk that the first n of the slots make, all of them where n is larger.
+fn serve_first(slots: [Slot; 33], n: usize, ledger: Ledger, map: &mut [u8], bytes: &[u8]) -> Lent {
+    let mut held = slots;
+    let k = at_most_held(n);
+    let served = desk::serve(ledger, map, &mut held[..k], bytes);
+    lent_of(held, served)
+}
+
+// The first n bytes of a map; all of it where n is larger.
+fn first_of(map: &mut [u8], n: usize) -> &mut [u8] {
+    if n < map.len() {
+        return &mut map[..n];
+    }
+    map
+}
+
+// What is lent: the slots and how many of them are the desk, the ledger, the map and how many bytes of it are lent; and the last answer.
+struct Bench {
+    slots: [Slot; 33],
+    desk: u64,
+    ledger: Ledger,
+    map: [u8; 8193],
+    bytes: u64,
+    answer: u8,
+}
+
+fn empty() -> Bench {
+    Bench {
+        slots: [Slot::free(); 33],
+        desk: 32,
+        ledger: Ledger::empty(),
+        map: [0; 8193],
+        bytes: 8192,
+        answer: 0,
+    }
+}
+
+fn served(before: Bench, bytes: &[u8]) -> Bench {
+    let mut b = before;
+    let slots = b.slots;
+    let ledger = b.ledger;
+    let mut map = b.map;
+    let l = serve_first(
+        slots,
+        b.desk as usize,
+        ledger,
+        first_of(&mut map, b.bytes as usize),
+        bytes,
+    );
+    let next = l.slots;
+    let s = l.served;
+    let after = s.ledger;
+    b.slots = next;
+    b.ledger = after;
+    b.map = map;
+    b.answer = s.answer;
+    b
+}
+
+// One record to the book entry.
+fn taken(before: Bench, bytes: &[u8]) -> Bench {
+    let mut b = before;
+    let ledger = b.ledger;
+    let mut map = b.map;
+    let t = ledger.take(first_of(&mut map, b.bytes as usize), bytes);
+    let after = t.ledger;
+    b.ledger = after;
+    b.map = map;
+    b.answer = t.answer;
+    b
+}
+
+// The ledger with so many events and short events.
+fn with_events(before: Bench, v: [u64; 16]) -> Bench {
+    let mut b = before;
+    let mut l = b.ledger;
+    l.events = (v[1] % 65536) as u16;
+    l.short = (v[2] % 65536) as u16;
+    b.ledger = l;
+    b
+}
+
+// So many bytes of the map and slots of the desk.
+fn with_sizes(before: Bench, bytes: u64, desk: u64) -> Bench {
+    let mut b = before;
+    b.bytes = bytes;
+    b.desk = desk;
+    b
+}
+
+fn with_used(before: Bench, v: [u64; 16]) -> Bench {
+    let mut b = before;
+    let at = (v[1] % 8193) as usize;
+    b.map[at] = byte(v[2]);
+    b
+}
+
+fn head_of(v: [u64; 16]) -> Head {
+    Head {
+        number: (v[2] % 65536) as u16,
+        typ: (v[3] % 256) as u8,
+        voltage: (v[4] % 256) as u8,
+        cause: (v[5] % 256) as u8,
+        t0: (v[6] % 4294967296) as u32,
+    }
+}
+
+fn figures_of(v: [u64; 16]) -> Figures {
+    Figures {
+        customers: [Customers(v[9]), Customers(v[10]), Customers(v[11])],
+        halves: [HalfMinutes(v[12]), HalfMinutes(v[13]), HalfMinutes(v[14])],
+    }
+}
+
+fn with_slot(before: Bench, v: [u64; 16]) -> Bench {
+    let mut b = before;
+    let at = (v[1] % 33) as usize;
+    b.slots[at] = Slot {
+        head: head_of(v),
+        last: (v[7] % 4294967296) as u32,
+        steps: (v[8] % 256) as u8,
+        figures: figures_of(v),
+    };
+    b
+}
+
+// ---- messages and records
+
+fn low(n: u64) -> u32 {
+    (n % 4294967296) as u32
+}
+
+fn byte(n: u64) -> u8 {
+    (n % 256) as u8
+}
+
+fn put_frame(out: &mut [u8], size: u32, kind: u32, n: u64) -> usize {
+    let kind_at = pen::put_le2(out, 0, size);
+    let number_at = pen::put_le2(out, kind_at, kind);
+    pen::put_le2(out, number_at, low(n))
+}
+
+fn put_codes(out: &mut [u8], at: usize, v: [u64; 16]) -> usize {
+    let voltage_at = pen::put(out, at, byte(v[2]));
+    let cause_at = pen::put(out, voltage_at, byte(v[3]));
+    pen::put(out, cause_at, byte(v[4]))
+}
+
+fn put_counts(out: &mut [u8], at: usize, v: [u64; 16]) -> usize {
+    let vn_at = pen::put_le4(out, at, low(v[4]));
+    let vvn_at = pen::put_le4(out, vn_at, low(v[5]));
+    pen::put_le4(out, vvn_at, low(v[6]))
+}
+
+fn put_open(out: &mut [u8], v: [u64; 16]) -> usize {
+    let codes_at = put_frame(out, 13, 16, v[1]);
+    let t0_at = put_codes(out, codes_at, v);
+    pen::put_le4(out, t0_at, low(v[5]))
+}
+
+fn put_step(out: &mut [u8], v: [u64; 16]) -> usize {
+    let ordinal_at = put_frame(out, 23, 17, v[1]);
+    let time_at = pen::put(out, ordinal_at, byte(v[2]));
+    let counts_at = pen::put_le4(out, time_at, low(v[3]));
+    put_counts(out, counts_at, v)
+}
+
+fn put_close(out: &mut [u8], v: [u64; 16]) -> usize {
+    let steps_at = put_frame(out, 7, 18, v[1]);
+    pen::put(out, steps_at, byte(v[2]))
+}
+
+// A line of docs/TEXT.md.
+fn put_record(out: &mut [u8], line: &[u8]) -> usize {
+    let parsed = text_parse::parse(line, 0);
+    let e = parsed.entry;
+    pack::pack(out, 0, e)
+}
+
+// The bytes that a line stands for; none where it is no message and no record.
+fn put_line(out: &mut [u8], line: &[u8], word: u16, v: [u64; 16]) -> usize {
+    match word {
+        SHEET | STEPPED | HEX => put_record(out, line),
+        OPEN => put_open(out, v),
+        STEP => put_step(out, v),
+        CLOSE => put_close(out, v),
+        _ => 0,
+    }
+}
+
+// ---- what is looked at
+
+fn three(a: u64, b: u64, c: u64) {
+    number(a);
+    number(b);
+    number(c);
+}
+
+fn print_slot(s: Slot) {
+    let head = s.head;
+    let f = s.figures;
+    let c = f.customers;
+    let h = f.halves;
+    three(head.number as u64, head.t0 as u64, s.last as u64);
+    number(s.steps as u64);
+    three(c[0].0, c[1].0, c[2].0);
+    three(h[0].0, h[1].0, h[2].0);
+}
+
+// The cells of a type's row; those of the first where the type is not listed.
+fn cells_of(l: Ledger, typ: u64) -> [Cell; 3] {
+    let rows = l.rows;
+    let at = (codes::row_of(byte(typ)) % 7) as usize;
+    let row = rows[at];
+    row.levels
+}
+
+fn print_row(l: Ledger, typ: u64) {
+    let c = cells_of(l, typ);
+    number(l.events as u64);
+    number(l.short as u64);
+    three(c[0].customers.0, c[1].customers.0, c[2].customers.0);
+    three(c[0].halves.0, c[1].halves.0, c[2].halves.0);
+}
+
+fn print_customers(l: Ledger, typ: u64) {
+    let c = cells_of(l, typ);
+    number(c[0].customers.0);
+}
+
+fn print_halves(l: Ledger, typ: u64) {
+    let c = cells_of(l, typ);
+    number(c[0].halves.0);
+}
+
+fn print_look(b: Bench, at: u64) {
+    let slots = b.slots;
+    let i = (at % 33) as usize;
+    print_slot(slots[i]);
+}
+
+fn print_byte(b: Bench, at: u64) {
+    let map = b.map;
+    let i = (at % 8193) as usize;
+    number(map[i] as u64);
+}
+
+// The answer to a step of number 9.
+fn print_ninth(b: Bench) {
+    let mut out = [0u8; 23];
+    let mut v = [0u64; 16];
+    v[1] = 9;
+    v[2] = 1;
+    put_step(&mut out, v);
+    let after = served(b, &out);
+    number(after.answer as u64);
+}
+
+// ---- lines, told apart by the first two letters of their word
+
+const SHEET: u16 = 26739;
+
+const EMPTY: u16 = 28005;
+
+const LEDGER: u16 = 25964;
+
+const MAP: u16 = 24941;
+
+const USED: u16 = 29557;
+
+const DESK: u16 = 25956;
+
+const SLOT: u16 = 27763;
+
+const OPEN: u16 = 28783;
+
+const STEP: u16 = 29811;
+
+// Of `stepped` the third and fourth letters, since `step` begins with the same two.
+const STEPPED: u16 = 28773;
+
+const CLOSE: u16 = 27747;
+
+const HEX: u16 = 25960;
+
+const NOTHING: u16 = 28526;
+
+const LOOK: u16 = 28524;
+
+const ROW: u16 = 28530;
+
+const CUSTOMERS: u16 = 30051;
+
+const HALVES: u16 = 24936;
+
+const BYTE: u16 = 31074;
+
+// The word of a line, by its first letters.
+fn word_of(line: &[u8]) -> u16 {
+    let letters = wire::u16_at(line, 0);
+    if (letters == STEP) & (wire::byte_at(line, 4) == b'p') {
+        return STEPPED;
+    }
+    letters
+}
+
+// How many numbers a line has; as many as none has where the word is none of the text's.
+fn items_of(word: u16) -> usize {
+    match word {
+        EMPTY | NOTHING => 0,
+        MAP | DESK | LOOK | ROW | CUSTOMERS | HALVES | BYTE => 1,
+        LEDGER | USED | CLOSE => 2,
+        OPEN => 5,
+        STEP => 6,
+        SLOT => 14,
+        _ => 16,
+    }
+}
+
+// Whether a line is one of the text's.
+fn is_right(line: &[u8], word: u16, count: usize) -> bool {
+    match word {
+        SHEET | STEPPED | HEX => text_parse::parse(line, 0).answer == 0,
+        _ => count == items_of(word),
+    }
+}
+
+fn tell(line: &[u8], right: bool) {
+    if !right {
+        word(b"no such line: ");
+        word(line);
+        word(b"\n");
+    }
+}
+
+// What a line does that is no message and no record.
+fn set_up(b: Bench, word: u16, v: [u64; 16]) -> Bench {
+    match word {
+        LEDGER => with_events(b, v),
+        MAP => with_sizes(b, v[1], b.desk),
+        DESK => with_sizes(b, b.bytes, v[1]),
+        USED => with_used(b, v),
+        SLOT => with_slot(b, v),
+        _ => b,
+    }
+}
+
+// What a line does.
+fn sent(b: Bench, line: &[u8]) -> Bench {
+    let word = word_of(line);
+    let n = numbers_in(line);
+    let v = n.values;
+    tell(line, is_right(line, word, n.count));
+    let mut out = io::buffer();
+    let size = put_line(&mut out, line, word, v);
+    let bytes = wire::part(&out, 0, size);
+    match word {
+        SHEET | EMPTY => taken(empty(), bytes),
+        STEPPED => taken(b, bytes),
+        OPEN | STEP | CLOSE | HEX | NOTHING => served(b, bytes),
+        _ => set_up(b, word, v),
+    }
+}
+
+// What is looked at in the ledger, or the answer.
+fn print_ledger(l: Ledger, answer: u8, word: u16, typ: u64) {
+    match word {
+        ROW => print_row(l, typ),
+        CUSTOMERS => print_customers(l, typ),
+        HALVES => print_halves(l, typ),
+        _ => number(answer as u64),
+    }
+}
+
+// What a line with a name prints.
+fn print(b: Bench, word: u16, at: u64) {
+    let l = b.ledger;
+    match word {
+        SLOT => print_ninth(b),
+        LOOK => print_look(b, at),
+        BYTE => print_byte(b, at),
+        _ => print_ledger(l, b.answer, word, at),
+    }
+}
+
+fn print_line(b: Bench, line: &[u8]) {
+    let n = numbers_in(line);
+    let v = n.values;
+    print(b, word_of(line), v[1]);
+}
+
+fn print_end(mode: u8) {
+    if mode != b'+' {
+        word(b"\n");
+    }
+}
+
+// What a trial leaves, and any other line.
+fn kept(mode: u8, before: Bench, after: Bench) -> Bench {
+    if mode == b' ' { before } else { after }
+}
+
+// A line after its name, from the colon on.
+fn body_of(rest: &[u8], mode: u8) -> &[u8] {
+    if mode == b' ' {
+        return wire::part(rest, 2, rest.len());
+    }
+    wire::part(rest, 3, rest.len())
+}
+
+fn named(b: Bench, rest: &[u8]) -> Bench {
+    let mode = wire::byte_at(rest, 1);
+    let line = body_of(rest, mode);
+    let next = sent(b, line);
+    print_line(next, line);
+    print_end(mode);
+    kept(mode, b, next)
+}
+
+fn with_name(b: Bench, line: &[u8], colon: usize) -> Bench {
+    word(wire::part(line, 0, colon));
+    named(b, wire::part(line, colon, line.len()))
+}
+
+fn headed(b: Bench, line: &[u8]) -> Bench {
+    word(line);
+    word(b"\n");
+    b
+}
+
+// What a line begins with where it is passed over or a heading, or a colon where a name stands in it.
+fn sort_of(line: &[u8], colon: usize) -> u8 {
+    let first = wire::byte_at(line, 0);
+    if line.len() == 0 {
+        return b'#';
+    }
+    if (first == b'#') | (first == b'-') {
+        return first;
+    }
+    wire::byte_at(line, colon)
+}
+
+fn take_line(b: Bench, line: &[u8]) -> Bench {
+    let colon = place_of(line, b':');
+    let sort = sort_of(line, colon);
+    match sort {
+        b'#' => b,
+        b'-' => headed(b, line),
+        b':' => with_name(b, line, colon),
+        _ => sent(b, line),
+    }
+}
+
+// The place after a line that begins at a place of the text.
+fn past_line(text: &[u8], start: usize) -> usize
+    requires { ⌜ start < length (now text) ⌝ }
+    ensures { λ r. ⌜ start < r ⌝ }
+{
+    let mut end = start;
+    while end < text.len() {
+        if text[end] == 10 {
+            return end + 1;
+        }
+        end += 1;
+    }
+    end
+}
+
+// Each line ends with a newline.
+fn run(text: &[u8]) {
+    let mut b = empty();
+    let mut start: usize = 0;
+    while start < text.len() {
+        let past = past_line(text, start);
+        b = take_line(b, wire::part(text, start, past - 1));
+        start = past;
+    }
+}
+
+fn main() {
+    let mut text = io::large_buffer();
+    let n = io::read_full(STDIN_FILENO, &mut text);
+    run(&text[..n]);
+}
