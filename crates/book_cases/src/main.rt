@@ -1,0 +1,486 @@
+// Cases of the book entry and of whole books, from a text on standard input. Its lines:
+//   -- WORDS                   a heading, printed as it is
+//   ledger THERE | YEAR | NN VN VVN | EVENTS SHORT
+//                              lends a ledger whose cells are all 0. THERE is 1 for a sheet; it is 0 for none, and the numbers are what stands in its place
+//   row TYPE | CUSTOMERS HALVES | CUSTOMERS HALVES | CUSTOMERS HALVES
+//                              sets the cells of a type in the lent ledger: NN, VN, VVN
+//   map SIZE                   lends an all-zero map of so many bytes
+//   bytes                      no bytes are ready
+//   RECORD                     a line of docs/TEXT.md, times in minutes: its bytes are ready, after those that were
+//   NAME: CASE                 prints name and outcome; ledger, map and ready bytes stay as they were
+//   NAME:= CASE                the same, and ledger and map are those after it
+// A case's BYTES are a RECORD, or `first SIZE | AT BYTE | AT BYTE | AT BYTE`: so many of the ready bytes, with up to three of them changed. A CASE:
+//   BYTES                      taken as one record: the answer
+//   adds BYTES                 the same, then events, short events, and customers and half minutes of type 11 on NN
+//   marks BYTES                the same, then offset and value of each byte of the map that is not 0
+//   book BYTES                 read as a whole book: the answer, events, short events, refused records, whether a length was broken (1), and customers
+//                              and half minutes of type 11 on NN
+//   events                     the ledger's events
+//   row TYPE                   customers and half minutes of a type on NN, VN, VVN
+// All but a RECORD are told by their first letter, and numbers are found whatever stands between them. What is no line or case is printed as such.
+use annex::Customers;
+use annex::HalfMinutes;
+use fields::Sheet;
+use ledger::Cell;
+use ledger::Ledger;
+use ledger::TypeRow;
+use libc::STDIN_FILENO;
+use libc::STDOUT_FILENO;
+use text_items::Entry;
+
+// ---- what is printed
+
+fn word(text: &[u8]) {
+    io::write_all(STDOUT_FILENO, text);
+}
+
+fn number(n: u64) {
+    word(b" ");
+    io::print_decimal(STDOUT_FILENO, n);
+}
+
+fn print_cell(c: Cell) {
+    number(c.customers.0);
+    number(c.halves.0);
+}
+
+// Something that is no line, or no case.
+fn wrong(what: &[u8]) {
+    word(b" NOT KNOWN: ");
+    word(what);
+    word(b"\n");
+}
+
+// ---- what is read
+
+// Where a byte next stands in a text from a place on; the text's end where it does not.
+fn place_of(text: &[u8], start: usize, byte: u8) -> usize {
+    let mut end = start;
+    while end < text.len() {
+        if text[end] == byte {
+            return end;
+        }
+        end += 1;
+    }
+    end
+}
+
+// The first numbers of a line: as many as are read, each of them, 0 past them, and whether the last byte was a digit.
+struct Numbers {
+    count: usize,
+    values: [u64; 12],
+    inside: bool,
+}
+
+// The numbers with one digit more at the last of them.
+fn with_digit(n: Numbers, digit: u64) -> Numbers {
+    let mut next = n;
+    let at = n.count;
+    if at < 12 {
+        let value = next.values[at];
+        if value <= 1844674407370955161 {
+            next.values[at] = std::num::wrapping_add_u64(value * 10, digit);
+        }
+    }
+    next.inside = true;
+    next
+}
+
+// The numbers past one byte more.
+fn with_byte(n: Numbers, b: u8) -> Numbers {
+    if (48 <= b) & (b <= 57) {
+        return with_digit(n, b as u64 % 16);
+    }
+    let mut next = n;
+    let at = n.count;
+    if n.inside {
+        if at < 12 {
+            next.count = at + 1;
+        }
+    }
+    next.inside = false;
+    next
+}
+
+fn numbers_in(s: &[u8]) -> Numbers {
+    let mut n = Numbers {
+        count: 0,
+        values: [0; 12],
+        inside: false,
+    };
+    let mut i = 0;
+    while i < s.len() {
+        n = with_byte(n, s[i]);
+        i += 1;
+    }
+    with_byte(n, 32)
+}
+
+// ---- what is lent
+
+// A ledger, a map of so many bytes, the bytes that are ready, and what the last case came to.
+struct Bench {
+    ledger: Ledger,
+    map: [u8; 8193],
+    size: usize,
+    bytes: [u8; 2048],
+    held: usize,
+    answer: u8,
+    refused: u64,
+    broken: bool,
+}
+
+fn begun() -> Bench {
+    Bench {
+        ledger: Ledger::empty(),
+        map: [0; 8193],
+        size: 8192,
+        bytes: [0; 2048],
+        held: 0,
+        answer: 0,
+        refused: 0,
+        broken: false,
+    }
+}
+
+fn sheet_of(v: [u64; 12]) -> Sheet {
+    Sheet {
+        there: v[0] == 1,
+        year: (v[1] % 65536) as u16,
+        totals: [
+            (v[2] % 4294967296) as u32,
+            (v[3] % 4294967296) as u32,
+            (v[4] % 4294967296) as u32,
+        ],
+    }
+}
+
+fn ledger_of(v: [u64; 12]) -> Ledger {
+    let mut l = Ledger::empty();
+    let sheet = sheet_of(v);
+    l.sheet = sheet;
+    l.events = (v[5] % 65536) as u16;
+    l.short = (v[6] % 65536) as u16;
+    l
+}
+
+fn cell_of(customers: u64, halves: u64) -> Cell {
+    Cell {
+        customers: Customers(customers),
+        halves: HalfMinutes(halves),
+    }
+}
+
+fn row_of(v: [u64; 12]) -> TypeRow {
+    TypeRow {
+        levels: [
+            cell_of(v[1], v[2]),
+            cell_of(v[3], v[4]),
+            cell_of(v[5], v[6]),
+        ],
+    }
+}
+
+// The place of a type's row.
+fn place(typ: u64) -> usize {
+    codes::row_of((typ % 256) as u8) as usize
+}
+
+fn with_row(l: Ledger, v: [u64; 12]) -> Ledger {
+    let mut next = l;
+    let row = row_of(v);
+    let at = place(v[0]);
+    if at < 7 {
+        next.rows[at] = row;
+    }
+    next
+}
+
+// The bench with a ledger lent, with a row set, with a map of another size, and with no bytes.
+fn with_ledger(b: Bench, v: [u64; 12]) -> Bench {
+    let mut next = b;
+    let l = ledger_of(v);
+    next.ledger = l;
+    next
+}
+
+fn with_row_set(b: Bench, v: [u64; 12]) -> Bench {
+    let mut next = b;
+    let l = b.ledger;
+    let set = with_row(l, v);
+    next.ledger = set;
+    next
+}
+
+fn with_map(b: Bench, size: u64) -> Bench {
+    let mut next = b;
+    next.map = [0; 8193];
+    next.size = size as usize;
+    next
+}
+
+fn with_no_bytes(b: Bench) -> Bench {
+    let mut next = b;
+    next.held = 0;
+    next
+}
+
+// The bench with the bytes of a record after those that are ready.
+fn with_record(b: Bench, entry: Entry) -> Bench {
+    let mut next = b;
+    let mut bytes = b.bytes;
+    let held = pack::pack(&mut bytes, b.held, entry);
+    next.bytes = bytes;
+    next.held = held;
+    next
+}
+
+// ---- cases
+
+// A map of so many bytes.
+fn sized(map: &mut [u8], size: usize) -> &mut [u8] {
+    if size <= map.len() {
+        return &mut map[0..size];
+    }
+    map
+}
+
+// Changes the byte at a place, where a line has so many numbers.
+fn change(bytes: &mut [u8], there: bool, at: u64, byte: u64) {
+    if !there {
+        return;
+    }
+    let to = at as usize;
+    if to < bytes.len() {
+        bytes[to] = (byte % 256) as u8;
+    }
+}
+
+// So many of the ready bytes, some of them changed: how many.
+fn first_of(bytes: &mut [u8], what: &[u8]) -> usize {
+    let n = numbers_in(what);
+    let v = n.values;
+    change(bytes, 3 <= n.count, v[1], v[2]);
+    change(bytes, 5 <= n.count, v[3], v[4]);
+    change(bytes, 7 <= n.count, v[5], v[6]);
+    v[0] as usize
+}
+
+// The bytes of a case, put where the ready ones stand: how many.
+fn put_bytes(bytes: &mut [u8], what: &[u8]) -> usize {
+    if wire::byte_at(what, 0) == 102 {
+        return first_of(bytes, what);
+    }
+    let parsed = text_parse::parse(what, 0);
+    if parsed.answer != 0 {
+        wrong(what);
+    }
+    let told = parsed.entry;
+    pack::pack(bytes, 0, told)
+}
+
+// The bench after a case's bytes were taken as one record.
+fn taken(b: Bench, what: &[u8]) -> Bench {
+    let mut next = b;
+    let mut bytes = b.bytes;
+    let held = put_bytes(&mut bytes, what);
+    let mut map = b.map;
+    let l = b.ledger;
+    let t = l.take(sized(&mut map, b.size), wire::part(&bytes, 0, held));
+    let after = t.ledger;
+    next.ledger = after;
+    next.map = map;
+    next.answer = t.answer;
+    next
+}
+
+// The bench after a case's bytes were read as a book.
+fn read(b: Bench, what: &[u8]) -> Bench {
+    let mut next = b;
+    let mut bytes = b.bytes;
+    let held = put_bytes(&mut bytes, what);
+    let mut map = b.map;
+    let l = b.ledger;
+    let r = book::take_book(l, sized(&mut map, b.size), wire::part(&bytes, 0, held));
+    let after = r.ledger;
+    next.ledger = after;
+    next.map = map;
+    next.answer = r.answer;
+    next.refused = r.refused;
+    next.broken = r.broken;
+    next
+}
+
+fn print_first_cell(l: Ledger) {
+    let row = l.rows[0];
+    print_cell(row.levels[0]);
+}
+
+fn print_counts(l: Ledger) {
+    number(l.events as u64);
+    number(l.short as u64);
+}
+
+fn print_adds(b: Bench) {
+    let l = b.ledger;
+    number(b.answer as u64);
+    print_counts(l);
+    print_first_cell(l);
+}
+
+fn print_read(b: Bench) {
+    let l = b.ledger;
+    number(b.answer as u64);
+    print_counts(l);
+    number(b.refused);
+    number(if b.broken { 1 } else { 0 });
+    print_first_cell(l);
+}
+
+// The offset and the value of a byte that is not 0.
+fn print_mark(at: usize, byte: u8) {
+    if byte != 0 {
+        number(at as u64);
+        number(byte as u64);
+    }
+}
+
+fn print_marks(map: &[u8]) {
+    let mut i = 0;
+    while i < map.len() {
+        print_mark(i, map[i]);
+        i += 1;
+    }
+}
+
+fn print_marked(b: Bench) {
+    let map = b.map;
+    number(b.answer as u64);
+    print_marks(&map);
+}
+
+fn print_row(l: Ledger, typ: u64) {
+    let at = place(typ);
+    if at < 7 {
+        let row = l.rows[at];
+        print_cell(row.levels[0]);
+        print_cell(row.levels[1]);
+        print_cell(row.levels[2]);
+    }
+}
+
+// What is asked of the ledger alone.
+fn told(b: Bench, what: &[u8]) {
+    let l = b.ledger;
+    if wire::byte_at(what, 0) == 101 {
+        number(l.events as u64);
+        return;
+    }
+    let n = numbers_in(what);
+    let v = n.values;
+    print_row(l, v[0]);
+}
+
+// A word past, and the space behind it.
+fn past_word(s: &[u8]) -> &[u8] {
+    let rest = wire::part(s, place_of(s, 0, 32), s.len());
+    wire::part(rest, 1, rest.len())
+}
+
+// Prints what a case comes to: the bench after it.
+fn asked(b: Bench, what: &[u8]) -> Bench {
+    match wire::byte_at(what, 0) {
+        97 => {
+            let next = taken(b, past_word(what));
+            print_adds(next);
+            next
+        }
+        109 => {
+            let next = taken(b, past_word(what));
+            print_marked(next);
+            next
+        }
+        98 => {
+            let next = read(b, past_word(what));
+            print_read(next);
+            next
+        }
+        101 | 114 => {
+            told(b, what);
+            b
+        }
+        _ => {
+            let next = taken(b, what);
+            number(next.answer as u64);
+            next
+        }
+    }
+}
+
+// A line with a colon at a place: a case.
+fn run_case(b: Bench, line: &[u8], colon: usize) -> Bench {
+    word(wire::part(line, 0, colon));
+    let rest = wire::part(line, colon, line.len());
+    let next = asked(b, past_word(rest));
+    word(b"\n");
+    if wire::byte_at(rest, 1) == 61 {
+        return next;
+    }
+    b
+}
+
+// A line that is no record and no case: what it lends.
+fn lent(b: Bench, line: &[u8]) -> Bench {
+    let n = numbers_in(line);
+    let v = n.values;
+    match wire::byte_at(line, 0) {
+        108 => with_ledger(b, v),
+        114 => with_row_set(b, v),
+        109 => with_map(b, v[0]),
+        98 => with_no_bytes(b),
+        _ => {
+            wrong(line);
+            b
+        }
+    }
+}
+
+fn take_line(b: Bench, line: &[u8]) -> Bench {
+    if wire::byte_at(line, 0) == 45 {
+        word(line);
+        word(b"\n");
+        return b;
+    }
+    let parsed = text_parse::parse(line, 0);
+    if parsed.answer == 0 {
+        let told = parsed.entry;
+        return with_record(b, told);
+    }
+    let colon = place_of(line, 0, 58);
+    if colon < line.len() {
+        return run_case(b, line, colon);
+    }
+    lent(b, line)
+}
+
+fn run(text: &[u8]) {
+    let mut b = begun();
+    let mut stop: usize = 0;
+    while stop < text.len() {
+        let end = place_of(text, stop, 10);
+        b = take_line(b, wire::part(text, stop, end));
+        if text.len() <= end {
+            return;
+        }
+        if end < stop {
+            return;
+        }
+        stop = end + 1;
+    }
+}
+
+fn main() {
+    let mut text = io::large_buffer();
+    let n = io::read_full(STDIN_FILENO, &mut text);
+    run(&text[..n]);
+}
