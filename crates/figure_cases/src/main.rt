@@ -1,0 +1,330 @@
+// Cases of the indices, their decimals and the year report, from a text on standard input. Its lines:
+//   -- WORDS                   a heading, printed as it is
+//   # WORDS                    a comment, passed over, as is a line of nothing
+//   ledger THERE | YEAR | NN VN VVN | EVENTS SHORT
+//                              lends a ledger whose cells are all 0. THERE is 1 for a sheet; it is 0 for none, and the numbers are what stands in its place
+//   row TYPE | CUSTOMERS HALVES | CUSTOMERS HALVES | CUSTOMERS HALVES
+//                              sets the cells of a type in the lent ledger: NN, VN, VVN
+//   NAME: CASE                 prints name and outcome. A CASE:
+//     INDEX LEVEL SET          the exact figure: 0, top and bottom; or the number of the refusal alone. INDEX is SAIFI, SAIDI or CAIDI; LEVEL is NN, VN, VVN or
+//                              SYS; SET is all, std or none for one that is not named
+//     INDEX LEVEL SET DIGITS   the same as a decimal: 0, whole part and digits; or the number of the refusal alone
+//     fraction TOP BOTTOM DIGITS
+//                              the decimal of a fraction, the same way
+//     report REFUSED           the answer, and the text of the report with so many refused records
+// Numbers are found whatever stands between them. What is no line or case is printed as such.
+use annex::Customers;
+use annex::HalfMinutes;
+use codes::Set;
+use decimal::Shown;
+use fields::Sheet;
+use index::Answer;
+use index::Index;
+use index::Level;
+use ledger::Cell;
+use ledger::Ledger;
+use ledger::TypeRow;
+use libc::STDIN_FILENO;
+use libc::STDOUT_FILENO;
+
+// ---- what is printed
+
+fn word(text: &[u8]) {
+    io::write_all(STDOUT_FILENO, text);
+}
+
+fn number(n: u64) {
+    word(b" ");
+    io::print_decimal(STDOUT_FILENO, n);
+}
+
+fn one(n: u64) {
+    number(n);
+    word(b"\n");
+}
+
+fn three(a: u64, b: u64, c: u64) {
+    number(a);
+    number(b);
+    one(c);
+}
+
+fn print_exact(a: Answer) {
+    match a {
+        Answer::Is(f) => three(0, f.top, f.bottom),
+        Answer::Refused(n) => one(n as u64),
+    }
+}
+
+fn print_shown(s: Shown) {
+    match s {
+        Shown::Is(d) => three(0, d.whole, d.digits),
+        Shown::Refused(n) => one(n as u64),
+    }
+}
+
+fn print_report(l: Ledger, refused: u64) {
+    let r = report::report_of(l, refused);
+    let t = r.text;
+    let bytes = t.bytes;
+    one(r.answer as u64);
+    word(wire::part(&bytes, 0, t.len));
+}
+
+// Something that is no line, or no case.
+fn wrong(what: &[u8]) {
+    word(b" NOT KNOWN: ");
+    word(what);
+    word(b"\n");
+}
+
+// ---- what is read
+
+// Where a byte next stands in a text from a place on; the text's end where it does not.
+fn place_of(text: &[u8], start: usize, byte: u8) -> usize {
+    let mut end = start;
+    while end < text.len() {
+        if text[end] == byte {
+            return end;
+        }
+        end += 1;
+    }
+    end
+}
+
+// The first numbers of a line: as many as are read, each of them, 0 past them, and whether the last byte was a digit.
+struct Numbers {
+    count: usize,
+    values: [u64; 12],
+    inside: bool,
+}
+
+// The numbers with one digit more at the last of them.
+fn with_digit(n: Numbers, digit: u64) -> Numbers {
+    let mut next = n;
+    let at = n.count;
+    if at < 12 {
+        let value = next.values[at];
+        if value <= 1844674407370955161 {
+            next.values[at] = std::num::wrapping_add_u64(value * 10, digit);
+        }
+    }
+    next.inside = true;
+    next
+}
+
+// The numbers past one byte more.
+fn with_byte(n: Numbers, b: u8) -> Numbers {
+    if (48 <= b) & (b <= 57) {
+        return with_digit(n, b as u64 % 16);
+    }
+    let mut next = n;
+    let at = n.count;
+    if n.inside {
+        if at < 12 {
+            next.count = at + 1;
+        }
+    }
+    next.inside = false;
+    next
+}
+
+fn numbers_in(s: &[u8]) -> Numbers {
+    let mut n = Numbers {
+        count: 0,
+        values: [0; 12],
+        inside: false,
+    };
+    let mut i = 0;
+    while i < s.len() {
+        n = with_byte(n, s[i]);
+        i += 1;
+    }
+    with_byte(n, 32)
+}
+
+// A word past, and the space behind it.
+fn past_word(s: &[u8]) -> &[u8] {
+    let rest = wire::part(s, place_of(s, 0, 32), s.len());
+    wire::part(rest, 1, rest.len())
+}
+
+// The index, the level and the set that words name.
+fn index_told(s: &[u8]) -> Index {
+    if wire::byte_at(s, 0) == 67 {
+        return Index::Caidi;
+    }
+    if wire::byte_at(s, 3) == 68 {
+        return Index::Saidi;
+    }
+    Index::Saifi
+}
+
+fn level_told(s: &[u8]) -> Level {
+    match wire::byte_at(s, 0) {
+        78 => Level::NN,
+        83 => Level::Network,
+        _ => {
+            if wire::byte_at(s, 1) == 78 {
+                return Level::VN;
+            }
+            Level::VVN
+        }
+    }
+}
+
+fn set_told(s: &[u8]) -> Set {
+    match wire::byte_at(s, 0) {
+        97 => Set::All,
+        115 => Set::Std,
+        _ => Set::Unnamed,
+    }
+}
+
+// ---- what is lent
+
+fn sheet_of(v: [u64; 12]) -> Sheet {
+    Sheet {
+        there: v[0] == 1,
+        year: (v[1] % 65536) as u16,
+        totals: [
+            (v[2] % 4294967296) as u32,
+            (v[3] % 4294967296) as u32,
+            (v[4] % 4294967296) as u32,
+        ],
+    }
+}
+
+fn ledger_of(v: [u64; 12]) -> Ledger {
+    let mut l = Ledger::empty();
+    let sheet = sheet_of(v);
+    l.sheet = sheet;
+    l.events = (v[5] % 65536) as u16;
+    l.short = (v[6] % 65536) as u16;
+    l
+}
+
+fn cell_of(customers: u64, halves: u64) -> Cell {
+    Cell {
+        customers: Customers(customers),
+        halves: HalfMinutes(halves),
+    }
+}
+
+fn row_of(v: [u64; 12]) -> TypeRow {
+    TypeRow {
+        levels: [
+            cell_of(v[1], v[2]),
+            cell_of(v[3], v[4]),
+            cell_of(v[5], v[6]),
+        ],
+    }
+}
+
+// The place of a type's row.
+fn place(typ: u64) -> usize {
+    codes::row_of((typ % 256) as u8) as usize
+}
+
+fn with_row(l: Ledger, v: [u64; 12]) -> Ledger {
+    let mut next = l;
+    let row = row_of(v);
+    let at = place(v[0]);
+    if at < 7 {
+        next.rows[at] = row;
+    }
+    next
+}
+
+// ---- cases
+
+// An index, exactly or with so many digits.
+fn figure(l: Ledger, what: &[u8]) {
+    let index = index_told(what);
+    let at_level = past_word(what);
+    let level = level_told(at_level);
+    let set = set_told(past_word(at_level));
+    let n = numbers_in(what);
+    let v = n.values;
+    if n.count == 0 {
+        print_exact(index::index_of(l, index, level, set));
+        return;
+    }
+    print_shown(index::decimal_of(l, index, level, set, (v[0] % 256) as u8));
+}
+
+fn asked(l: Ledger, what: &[u8]) {
+    let n = numbers_in(what);
+    let v = n.values;
+    match wire::byte_at(what, 0) {
+        67 | 83 => figure(l, what),
+        102 => print_shown(decimal::decimal_of(ratio::lowest(v[0], v[1]), (v[2] % 256) as u8)),
+        114 => print_report(l, v[0]),
+        _ => wrong(what),
+    }
+}
+
+// A line with a colon at a place: a case.
+fn run_case(l: Ledger, line: &[u8], colon: usize) {
+    word(wire::part(line, 0, colon));
+    asked(l, past_word(wire::part(line, colon, line.len())));
+}
+
+// A line that is no case: what it lends.
+fn lent(l: Ledger, line: &[u8]) -> Ledger {
+    let n = numbers_in(line);
+    let v = n.values;
+    match wire::byte_at(line, 0) {
+        108 => ledger_of(v),
+        114 => with_row(l, v),
+        0 => l,
+        _ => {
+            wrong(line);
+            l
+        }
+    }
+}
+
+// A line that begins with neither # nor -.
+fn take_words(l: Ledger, line: &[u8]) -> Ledger {
+    let colon = place_of(line, 0, 58);
+    if line.len() <= colon {
+        return lent(l, line);
+    }
+    run_case(l, line, colon);
+    l
+}
+
+fn take_line(l: Ledger, line: &[u8]) -> Ledger {
+    match wire::byte_at(line, 0) {
+        35 => l,
+        45 => {
+            word(line);
+            word(b"\n");
+            l
+        }
+        _ => take_words(l, line),
+    }
+}
+
+fn run(text: &[u8]) {
+    let mut l = Ledger::empty();
+    let mut stop: usize = 0;
+    while stop < text.len() {
+        let end = place_of(text, stop, 10);
+        l = take_line(l, wire::part(text, stop, end));
+        if text.len() <= end {
+            return;
+        }
+        if end < stop {
+            return;
+        }
+        stop = end + 1;
+    }
+}
+
+fn main() {
+    let mut text = io::large_buffer();
+    let n = io::read_full(STDIN_FILENO, &mut text);
+    run(&text[..n]);
+}
