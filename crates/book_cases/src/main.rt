@@ -1,4 +1,4 @@
-// Cases of the book entry and of whole books, from a text on standard input. Its lines:
+// Cases of the book entry, of whole books and of the book reader, from a text on standard input. Its lines:
 //   -- WORDS                   a heading, printed as it is
 //   ledger THERE | YEAR | NN VN VVN | EVENTS SHORT
 //                              lends a ledger whose cells are all 0. THERE is 1 for a sheet; it is 0 for none, and the numbers are what stands in its place
@@ -15,17 +15,22 @@
 //   marks BYTES                the same, then offset and value of each byte of the map that is not 0
 //   book BYTES                 read as a whole book: the answer, events, short events, refused records, whether a length was broken (1), and customers
 //                              and half minutes of type 11 on NN
+//   next OFFSET BYTES          a reader of them at an offset: its answer, the size of its record, the offset of the reader in it, and what that one answers
+//   count BYTES                a reader of them, asked on: how many records it gave, the offset where it was left, and its last answer
 //   events                     the ledger's events
 //   row TYPE                   customers and half minutes of a type on NN, VN, VVN
 // All but a RECORD are told by their first letter, and numbers are found whatever stands between them. What is no line or case is printed as such.
 use annex::Customers;
 use annex::HalfMinutes;
+use book::Read;
 use fields::Sheet;
 use ledger::Cell;
 use ledger::Ledger;
 use ledger::TypeRow;
 use libc::STDIN_FILENO;
 use libc::STDOUT_FILENO;
+use reader::Asked;
+use reader::Counted;
 use text_items::Entry;
 
 // ---- what is printed
@@ -116,18 +121,21 @@ fn numbers_in(s: &[u8]) -> Numbers {
     with_byte(n, 32)
 }
 
+// A word past, and the space behind it.
+fn past_word(s: &[u8]) -> &[u8] {
+    let rest = wire::part(s, place_of(s, 0, 32), s.len());
+    wire::part(rest, 1, rest.len())
+}
+
 // ---- what is lent
 
-// A ledger, a map of so many bytes, the bytes that are ready, and what the last case came to.
+// A ledger, a map of so many bytes, and the bytes that are ready.
 struct Bench {
     ledger: Ledger,
     map: [u8; 8193],
     size: usize,
     bytes: [u8; 2048],
     held: usize,
-    answer: u8,
-    refused: u64,
-    broken: bool,
 }
 
 fn begun() -> Bench {
@@ -137,9 +145,6 @@ fn begun() -> Bench {
         size: 8192,
         bytes: [0; 2048],
         held: 0,
-        answer: 0,
-        refused: 0,
-        broken: false,
     }
 }
 
@@ -279,38 +284,6 @@ fn put_bytes(bytes: &mut [u8], what: &[u8]) -> usize {
     pack::pack(bytes, 0, told)
 }
 
-// The bench after a case's bytes were taken as one record.
-fn taken(b: Bench, what: &[u8]) -> Bench {
-    let mut next = b;
-    let mut bytes = b.bytes;
-    let held = put_bytes(&mut bytes, what);
-    let mut map = b.map;
-    let l = b.ledger;
-    let t = l.take(sized(&mut map, b.size), wire::part(&bytes, 0, held));
-    let after = t.ledger;
-    next.ledger = after;
-    next.map = map;
-    next.answer = t.answer;
-    next
-}
-
-// The bench after a case's bytes were read as a book.
-fn read(b: Bench, what: &[u8]) -> Bench {
-    let mut next = b;
-    let mut bytes = b.bytes;
-    let held = put_bytes(&mut bytes, what);
-    let mut map = b.map;
-    let l = b.ledger;
-    let r = book::take_book(l, sized(&mut map, b.size), wire::part(&bytes, 0, held));
-    let after = r.ledger;
-    next.ledger = after;
-    next.map = map;
-    next.answer = r.answer;
-    next.refused = r.refused;
-    next.broken = r.broken;
-    next
-}
-
 fn print_first_cell(l: Ledger) {
     let row = l.rows[0];
     print_cell(row.levels[0]);
@@ -321,19 +294,8 @@ fn print_counts(l: Ledger) {
     number(l.short as u64);
 }
 
-fn print_adds(b: Bench) {
-    let l = b.ledger;
-    number(b.answer as u64);
+fn print_added(l: Ledger) {
     print_counts(l);
-    print_first_cell(l);
-}
-
-fn print_read(b: Bench) {
-    let l = b.ledger;
-    number(b.answer as u64);
-    print_counts(l);
-    number(b.refused);
-    number(if b.broken { 1 } else { 0 });
     print_first_cell(l);
 }
 
@@ -353,10 +315,82 @@ fn print_marks(map: &[u8]) {
     }
 }
 
-fn print_marked(b: Bench) {
-    let map = b.map;
-    number(b.answer as u64);
-    print_marks(&map);
+// The answer to a record, and what the case's first letter asks beside it.
+fn print_taken(letter: u8, answer: u8, l: Ledger, map: &[u8]) {
+    number(answer as u64);
+    match letter {
+        97 => print_added(l),
+        109 => print_marks(map),
+        _ => {}
+    }
+}
+
+// The bench after a case's bytes were taken as one record.
+fn taken(b: Bench, letter: u8, what: &[u8]) -> Bench {
+    let mut next = b;
+    let mut bytes = b.bytes;
+    let held = put_bytes(&mut bytes, what);
+    let mut map = b.map;
+    let l = b.ledger;
+    let t = l.take(sized(&mut map, b.size), wire::part(&bytes, 0, held));
+    let after = t.ledger;
+    print_taken(letter, t.answer, after, &map);
+    next.ledger = after;
+    next.map = map;
+    next
+}
+
+fn print_read(r: Read) {
+    let l = r.ledger;
+    number(r.answer as u64);
+    print_counts(l);
+    number(r.refused);
+    number(if r.broken { 1 } else { 0 });
+    print_first_cell(l);
+}
+
+// The bench after a case's bytes were read as a book.
+fn read(b: Bench, what: &[u8]) -> Bench {
+    let mut next = b;
+    let mut bytes = b.bytes;
+    let held = put_bytes(&mut bytes, what);
+    let mut map = b.map;
+    let l = b.ledger;
+    let r = book::take_book(l, sized(&mut map, b.size), wire::part(&bytes, 0, held));
+    let after = r.ledger;
+    print_read(r);
+    next.ledger = after;
+    next.map = map;
+    next
+}
+
+fn print_asked(a: Asked) {
+    number(a.which as u64);
+    number(a.size as u64);
+    number(a.at as u64);
+    number(a.again as u64);
+}
+
+// A reader at an offset is asked, and then the reader that it answers.
+fn ask(lent: [u8; 2048], what: &[u8]) {
+    let n = numbers_in(what);
+    let v = n.values;
+    let mut bytes = lent;
+    let held = put_bytes(&mut bytes, past_word(past_word(what)));
+    print_asked(reader::first_from(wire::part(&bytes, 0, held), v[0] as usize));
+}
+
+fn print_counted(c: Counted) {
+    number(c.count as u64);
+    number(c.at as u64);
+    number(c.which as u64);
+}
+
+// A reader is asked until it answers no record.
+fn count(lent: [u8; 2048], what: &[u8]) {
+    let mut bytes = lent;
+    let held = put_bytes(&mut bytes, past_word(what));
+    print_counted(reader::count_records(wire::part(&bytes, 0, held)));
 }
 
 fn print_row(l: Ledger, typ: u64) {
@@ -369,51 +403,31 @@ fn print_row(l: Ledger, typ: u64) {
     }
 }
 
-// What is asked of the ledger alone.
-fn told(b: Bench, what: &[u8]) {
+// What is asked of the ledger or of the ready bytes, which stay as they are.
+fn tell(b: Bench, what: &[u8]) {
     let l = b.ledger;
-    if wire::byte_at(what, 0) == 101 {
-        number(l.events as u64);
-        return;
-    }
+    let bytes = b.bytes;
     let n = numbers_in(what);
     let v = n.values;
-    print_row(l, v[0]);
-}
-
-// A word past, and the space behind it.
-fn past_word(s: &[u8]) -> &[u8] {
-    let rest = wire::part(s, place_of(s, 0, 32), s.len());
-    wire::part(rest, 1, rest.len())
+    match wire::byte_at(what, 0) {
+        101 => number(l.events as u64),
+        110 => ask(bytes, what),
+        99 => count(bytes, what),
+        _ => print_row(l, v[0]),
+    }
 }
 
 // Prints what a case comes to: the bench after it.
-fn asked(b: Bench, what: &[u8]) -> Bench {
-    match wire::byte_at(what, 0) {
-        97 => {
-            let next = taken(b, past_word(what));
-            print_adds(next);
-            next
-        }
-        109 => {
-            let next = taken(b, past_word(what));
-            print_marked(next);
-            next
-        }
-        98 => {
-            let next = read(b, past_word(what));
-            print_read(next);
-            next
-        }
-        101 | 114 => {
-            told(b, what);
+fn run_asked(b: Bench, what: &[u8]) -> Bench {
+    let letter = wire::byte_at(what, 0);
+    match letter {
+        97 | 109 => taken(b, letter, past_word(what)),
+        98 => read(b, past_word(what)),
+        99 | 101 | 110 | 114 => {
+            tell(b, what);
             b
         }
-        _ => {
-            let next = taken(b, what);
-            number(next.answer as u64);
-            next
-        }
+        _ => taken(b, letter, what),
     }
 }
 
@@ -421,7 +435,7 @@ fn asked(b: Bench, what: &[u8]) -> Bench {
 fn run_case(b: Bench, line: &[u8], colon: usize) -> Bench {
     word(wire::part(line, 0, colon));
     let rest = wire::part(line, colon, line.len());
-    let next = asked(b, past_word(rest));
+    let next = run_asked(b, past_word(rest));
     word(b"\n");
     if wire::byte_at(rest, 1) == 61 {
         return next;
