@@ -1,10 +1,13 @@
-// Cases of the indices, their decimals and the year report, from a text on standard input. Its lines:
+// Cases of the indices, their decimals, the year report and a book taken in pieces, from a text on standard input. Its lines:
 //   -- WORDS                   a heading, printed as it is
 //   # WORDS                    a comment, passed over, as is a line of nothing
 //   ledger THERE | YEAR | NN VN VVN | EVENTS SHORT
 //                              lends a ledger whose cells are all 0. THERE is 1 for a sheet; it is 0 for none, and the numbers are what stands in its place
 //   row TYPE | CUSTOMERS HALVES | CUSTOMERS HALVES | CUSTOMERS HALVES
 //                              sets the cells of a type in the lent ledger: NN, VN, VVN
+//   all 7 rows | CUSTOMERS HALVES | CUSTOMERS HALVES | CUSTOMERS HALVES
+//                              sets those of every type
+//   buffer BYTE ..             lends a buffer of these 10 bytes
 //   NAME: CASE                 prints name and outcome. A CASE:
 //     INDEX LEVEL SET          the exact figure: 0, top and bottom; or the number of the refusal alone. INDEX is SAIFI, SAIDI or CAIDI; LEVEL is NN, VN, VVN or
 //                              SYS; SET is all, std or none for one that is not named
@@ -12,9 +15,17 @@
 //     fraction TOP BOTTOM DIGITS
 //                              the decimal of a fraction, the same way
 //     report REFUSED           the answer, and the text of the report with so many refused records
+//     piece FILLED | REFUSED HELD DEAD | MAP
+//                              the first bytes of the buffer taken as a piece, by a feed that has the lent ledger, so many refused records, so many bytes held and
+//                              a dead rest (1) or not (0), with an all-zero map of so many bytes: the answer, accepted events, refused records, bytes
+//                              held, and whether the rest is dead. The buffer stays as the call leaves it
+//     end REFUSED HELD DEAD    the end of such a feed: the answer, refused records, and whether a length was broken
 // Numbers are found whatever stands between them. What is no line or case is printed as such.
 use annex::Customers;
 use annex::HalfMinutes;
+use book::Read;
+use book_pieces::Fed;
+use book_pieces::Feed;
 use codes::Set;
 use decimal::Shown;
 use fields::Sheet;
@@ -69,6 +80,26 @@ fn print_report(l: Ledger, refused: u64) {
     let bytes = t.bytes;
     one(r.answer as u64);
     word(wire::part(&bytes, 0, t.len));
+}
+
+fn bit(b: bool) -> u64 {
+    if b { 1 } else { 0 }
+}
+
+fn print_fed(fed: Fed) {
+    let f = fed.feed;
+    let l = f.ledger;
+    number(fed.answer as u64);
+    number(l.events as u64);
+    number(f.refused);
+    number(f.held as u64);
+    one(bit(f.dead));
+}
+
+fn print_read(r: Read) {
+    number(r.answer as u64);
+    number(r.refused);
+    one(bit(r.broken));
 }
 
 // Something that is no line, or no case.
@@ -236,6 +267,34 @@ fn with_row(l: Ledger, v: [u64; 12]) -> Ledger {
     next
 }
 
+fn with_rows(l: Ledger, v: [u64; 12]) -> Ledger {
+    let mut next = l;
+    let row = row_of(v);
+    next.rows = [row; 7];
+    next
+}
+
+fn buffer_of(v: [u64; 12]) -> [u8; 10] {
+    [
+        (v[0] % 256) as u8,
+        (v[1] % 256) as u8,
+        (v[2] % 256) as u8,
+        (v[3] % 256) as u8,
+        (v[4] % 256) as u8,
+        (v[5] % 256) as u8,
+        (v[6] % 256) as u8,
+        (v[7] % 256) as u8,
+        (v[8] % 256) as u8,
+        (v[9] % 256) as u8,
+    ]
+}
+
+// A ledger and a buffer.
+struct Bench {
+    ledger: Ledger,
+    buffer: [u8; 10],
+}
+
 // ---- cases
 
 // An index, exactly or with so many digits.
@@ -253,30 +312,74 @@ fn figure(l: Ledger, what: &[u8]) {
     print_shown(index::decimal_of(l, index, level, set, (v[0] % 256) as u8));
 }
 
-fn asked(l: Ledger, what: &[u8]) {
+// What is asked of the ledger alone.
+fn tell(l: Ledger, what: &[u8]) {
     let n = numbers_in(what);
     let v = n.values;
     match wire::byte_at(what, 0) {
         67 | 83 => figure(l, what),
         102 => print_shown(decimal::decimal_of(ratio::lowest(v[0], v[1]), (v[2] % 256) as u8)),
         114 => print_report(l, v[0]),
+        101 => print_read(book_pieces::finish(feed_of(l, v[0], v[1], v[2]))),
         _ => wrong(what),
     }
 }
 
-// A line with a colon at a place: a case.
-fn run_case(l: Ledger, line: &[u8], colon: usize) {
-    word(wire::part(line, 0, colon));
-    asked(l, past_word(wire::part(line, colon, line.len())));
+fn feed_of(ledger: Ledger, refused: u64, held: u64, dead: u64) -> Feed {
+    Feed {
+        ledger,
+        refused,
+        held: held as usize,
+        dead: dead == 1,
+    }
 }
 
-// A line that is no case: what it lends.
-fn lent(l: Ledger, line: &[u8]) -> Ledger {
+// A map of so many bytes.
+fn sized(map: &mut [u8], size: usize) -> &mut [u8] {
+    if size <= map.len() {
+        return &mut map[0..size];
+    }
+    map
+}
+
+// A piece: the bench with the buffer after it.
+fn take_piece(b: Bench, v: [u64; 12]) -> Bench {
+    let l = b.ledger;
+    let mut buffer = b.buffer;
+    let mut map = [0u8; 8192];
+    let f = feed_of(l, v[1], v[2], v[3]);
+    let fed = book_pieces::take_piece(
+        f,
+        sized(&mut map, v[4] as usize),
+        &mut buffer,
+        v[0] as usize,
+    );
+    print_fed(fed);
+    Bench { ledger: l, buffer }
+}
+
+// A line with a colon at a place: a case.
+fn run_case(b: Bench, line: &[u8], colon: usize) -> Bench {
+    word(wire::part(line, 0, colon));
+    let what = past_word(wire::part(line, colon, line.len()));
+    let l = b.ledger;
+    if wire::byte_at(what, 0) == 112 {
+        let n = numbers_in(what);
+        let v = n.values;
+        return take_piece(b, v);
+    }
+    tell(l, what);
+    b
+}
+
+// A line that lends a ledger, or cells of one.
+fn lent_ledger(l: Ledger, line: &[u8]) -> Ledger {
     let n = numbers_in(line);
     let v = n.values;
     match wire::byte_at(line, 0) {
         108 => ledger_of(v),
         114 => with_row(l, v),
+        97 => with_rows(l, v),
         0 => l,
         _ => {
             wrong(line);
@@ -285,34 +388,54 @@ fn lent(l: Ledger, line: &[u8]) -> Ledger {
     }
 }
 
-// A line that begins with neither # nor -.
-fn take_words(l: Ledger, line: &[u8]) -> Ledger {
-    let colon = place_of(line, 0, 58);
-    if line.len() <= colon {
-        return lent(l, line);
+// A line that is no case: what it lends.
+fn lent(b: Bench, line: &[u8]) -> Bench {
+    let l = b.ledger;
+    let buffer = b.buffer;
+    if wire::byte_at(line, 0) == 98 {
+        let n = numbers_in(line);
+        let v = n.values;
+        return Bench {
+            ledger: l,
+            buffer: buffer_of(v),
+        };
     }
-    run_case(l, line, colon);
-    l
+    Bench {
+        ledger: lent_ledger(l, line),
+        buffer,
+    }
 }
 
-fn take_line(l: Ledger, line: &[u8]) -> Ledger {
+// A line that begins with neither # nor -.
+fn take_words(b: Bench, line: &[u8]) -> Bench {
+    let colon = place_of(line, 0, 58);
+    if line.len() <= colon {
+        return lent(b, line);
+    }
+    run_case(b, line, colon)
+}
+
+fn take_line(b: Bench, line: &[u8]) -> Bench {
     match wire::byte_at(line, 0) {
-        35 => l,
+        35 => b,
         45 => {
             word(line);
             word(b"\n");
-            l
+            b
         }
-        _ => take_words(l, line),
+        _ => take_words(b, line),
     }
 }
 
 fn run(text: &[u8]) {
-    let mut l = Ledger::empty();
+    let mut b = Bench {
+        ledger: Ledger::empty(),
+        buffer: [0; 10],
+    };
     let mut stop: usize = 0;
     while stop < text.len() {
         let end = place_of(text, stop, 10);
-        l = take_line(l, wire::part(text, stop, end));
+        b = take_line(b, wire::part(text, stop, end));
         if text.len() <= end {
             return;
         }

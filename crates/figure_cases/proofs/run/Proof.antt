@@ -6,10 +6,10 @@ use Rattle.figure_cases.proofs.run.Statement.{statement}
 use Rattle.figure_cases.proofs.run.Tie as tie
 
 abbrev Inv-loop : tie.InvT-loop
-Inv-loop text l₀ stop₀ l stop = Unit {0}
+Inv-loop text b₀ stop₀ b stop = Unit {0}
 
 abbrev μ-loop : tie.MeasureT-loop
-μ-loop text l₀ stop₀ l stop = length text - stop
+μ-loop text b₀ stop₀ b stop = length text - stop
 
 pub run-spec : {M : Type 1} → statement M
 run-spec =
