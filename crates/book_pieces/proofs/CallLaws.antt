@@ -15,13 +15,13 @@ use Rattle.book.specs.Book.{BookState, starting, takeRecord, readOf, mapRead}
 use Rattle.book.proofs.RunLaws.{read-through}
 use Rattle.book_pieces.specs.Feed.{begunOf, readingOf, finishedOf}
 use Rattle.book_pieces.specs.Calls.{Lent, taker}
-use Rattle.book_pieces.proofs.FeedLaws.{buffer-long, fed-on}
+use Rattle.book_pieces.proofs.FeedLaws.{feed-refused, buffer-long, fed-on}
 use Rattle.book_pieces.proofs.LinkLaws.{finish-whole, count-fits, map-whole}
 
-abbrev reading : Lent → Held BookState
+abbrev pub reading : Lent → Held BookState
 reading x = readingOf (x .feed) (x .map)
 
-goes-on : GoesOn takeRecord taker reading
+pub goes-on : GoesOn takeRecord taker reading
 goes-on =
     record {
       holds = λ x. refl;
@@ -29,6 +29,12 @@ goes-on =
       left = λ x c zero. sym (fed-on (x .feed) (x .map) (c .buffer) (c .filled) zero .2);
       room = λ x c zero. buffer-long (x .feed) (x .map) (c .buffer) (c .filled) zero;
     }
+
+-- a call that is refused changes nothing
+pub stays : (x : Lent) (c : Call) → (taker .answer x c ≡ 0 → ⊥) → (taker .next x c ≡ x) × (taker .left x c ≡ c .buffer)
+stays x c not-zero =
+    let e = feed-refused (x .feed) (x .map) (c .buffer) (c .filled) not-zero in
+    (λ i. record { feed = sym (e .0) i .feed; map = sym (e .1) i }, sym (e .2))
 
 module _ (l : Ledger) (m b : List ℕ) (cs : List Call) where
   abbrev pub begun : Lent

@@ -28,7 +28,7 @@ use Rattle.element_file.proofs.RunLaws.{record-sound, run-sound, file-through, 
 use Rattle.element_pieces.specs.declared.Inflow.{Inflow}
 use Rattle.element_pieces.specs.declared.Flowed.{Flowed}
 use Rattle.element_pieces.specs.Inflow.{fresh, begunOf, readingOf, flowAnswer, finishAnswer, bufferAfter, flowedOf, taker, finishedOf}
-use Rattle.element_pieces.proofs.FlowLaws.{flowed-on, table-sound, buffer-long}
+use Rattle.element_pieces.proofs.FlowLaws.{flow-refused, flowed-on, table-sound, buffer-long}
 
 module _ (f : Inflow) (b : List ℕ) (filled : ℕ) (u : flowAnswer f b filled ≡ 0) where
   -- the inflow after a call holds the reading with one piece more
@@ -124,7 +124,7 @@ module _
         omega (arith, refused-below (seenAs false t) (joined ps))
 
 -- any run of calls
-goes-on : GoesOn takeRecord taker readingOf
+pub goes-on : GoesOn takeRecord taker readingOf
 goes-on =
     record {
       holds = λ f. refl;
@@ -132,6 +132,10 @@ goes-on =
       left = λ f c zero. sym (flowed-on f (c .buffer) (c .filled) zero .1);
       room = λ f c zero. buffer-long f (c .buffer) (c .filled) zero;
     }
+
+-- a call that is refused changes nothing
+pub stays : (f : Inflow) (c : Call) → (taker .answer f c ≡ 0 → ⊥) → (taker .next f c ≡ f) × (taker .left f c ≡ c .buffer)
+stays f c not-zero = let e = flow-refused f (c .buffer) (c .filled) not-zero in (λ i. sym (e .0) i .flow, sym (e .1))
 
 module _ (t : Table) (b : List ℕ) (cs : List Call) where
   abbrev pub begun : Inflow

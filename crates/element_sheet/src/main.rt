@@ -1,14 +1,10 @@
 // The element sheet: an observation period in years and the names of yearly element files as arguments; the sheet on standard output. The name - means
 // standard input, and so does no name at all. Where a file cannot be opened or read to its end there is no sheet: half of the data must not look like all of it.
-use element_pieces::Inflow;
 use element_table::Table;
 use libc::STDERR_FILENO;
 use libc::STDIN_FILENO;
 use libc::STDOUT_FILENO;
 use text::Text;
-
-// More pieces than any file has: 2^40. Past them the reading has failed.
-const MOST_PIECES: u64 = 1099511627776;
 
 // As many files as one sheet is made of: their refused records are held until the sheet is printed.
 const MOST_FILES: usize = 1024;
@@ -154,65 +150,6 @@ fn complain(what: &[u8], why: &[u8]) {
 
 // ---- a file
 
-// How many bytes of the buffer are filled, and whether the read failed.
-struct Filled {
-    count: usize,
-    failed: bool,
-}
-
-// Reads once behind the bytes held at the front of a buffer. At the end of the input there are as many as before.
-fn read_behind(fd: i32, buffer: &mut [u8], held: usize) -> Filled {
-    if buffer.len() <= held {
-        return Filled {
-            count: held,
-            failed: true,
-        };
-    }
-    let got = libc::read(fd, &mut buffer[held..]);
-    Filled {
-        count: held + io::count(got, buffer),
-        failed: got < 0,
-    }
-}
-
-// What was read of a file, and whether a read failed.
-struct Input {
-    flow: Inflow,
-    failed: bool,
-}
-
-// Reads a file to its end or to a length below 4, after which nothing can follow.
-fn read_file(fd: i32, begun: Inflow, buffer: &mut [u8]) -> Input {
-    let mut flow = begun;
-    let mut pieces: u64 = 0;
-    while pieces < MOST_PIECES {
-        let held = flow.held;
-        if flow.dead {
-            return Input {
-                flow,
-                failed: false,
-            };
-        }
-        let filled = read_behind(fd, buffer, held);
-        if filled.failed {
-            return Input { flow, failed: true };
-        }
-        if filled.count == held {
-            return Input {
-                flow,
-                failed: false,
-            };
-        }
-        let flowed = element_pieces::take_piece(flow, buffer, filled.count);
-        if flowed.answer != 0 {
-            return Input { flow, failed: true };
-        }
-        flow = flowed.flow;
-        pieces += 1;
-    }
-    Input { flow, failed: true }
-}
-
 // The table after a file, its refused records, and whether it could not be read.
 struct Taken {
     table: Table,
@@ -221,15 +158,13 @@ struct Taken {
 }
 
 fn take_open(fd: i32, table: Table) -> Taken {
-    let mut buffer = io::large_buffer();
-    let begun = element_pieces::begin(table);
-    let input = read_file(fd, begun.flow, &mut buffer);
-    let read = element_pieces::finish(input.flow);
+    let input = element_input::read_file(fd, table);
+    let read = input.read;
     let next = read.table;
     Taken {
         table: next,
         refused: read.refused,
-        failed: input.failed | (read.answer != 0),
+        failed: input.failed,
     }
 }
 

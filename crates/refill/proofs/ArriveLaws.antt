@@ -4,9 +4,14 @@ use mathlib.Core.Path.{_≡_, refl, sym, ap, _∙_, subst⁻¹}
 use mathlib.Core.Bool.{false}
 use mathlib.Core.List.{List, [], _∷_, _++_, append-assoc, append-nil}
 use native.Mathlib.Omega.{arith}
+use lib.Dec.{eqb}
 use lib.ListN.{length, take, drop, length-append, length-take, length-drop}
+use borrow.Author.Tests.{eqb-true, eqb-false}
+use Rattle.base.proofs.TestLaws.{Tested, holds, fails, test}
 use Rattle.wire.specs.Cut.{joined}
 use Rattle.records.specs.Pieces.{Pieces, beginning, fedAll, Held, heldOn, bufferOn}
+use Rattle.records.specs.Calls.{Call, Taker}
+use Rattle.records.proofs.CallLaws.{GoesOn}
 use Rattle.records.proofs.HeldLaws.{Holding, begins-holding, filled-up, held-on, fed-last}
 use Rattle.refill.specs.declared.Filled.{Filled}
 use Rattle.refill.specs.Refill.{Refilled}
@@ -51,3 +56,36 @@ module _ {S : Type 0} (step : S → List ℕ → S) where
                 (held-on step h b₁ (r .count) p lent (omega (arith, on .behind came)) (on .within came));
             few = omega (arith, a .few, ap length (joined-last (a .pieces) piece), length-append (joined (a .pieces)) piece, short);
           }
+
+-- a turn that hands a piece to a taker: where it is taken one piece more has come, and where it is refused none
+module _
+    {S F : Type 0}
+    (step : S → List ℕ → S)
+    (t : Taker F)
+    (reading : F → Held S)
+    (goes-on : GoesOn step t reading)
+    (stays : (f : F) (c : Call) → (t .answer f c ≡ 0 → ⊥) → (t .next f c ≡ f) × (t .left f c ≡ c .buffer))
+    (f : F)
+    (b b₁ : List ℕ)
+    (r : Filled)
+    (on : Refilled b (reading f .held) r b₁)
+    (came : r .ended ≡ false)
+    (small : length b ≤ room)
+    (st : S)
+    (turns : ℕ)
+    (a : Arrived step st (reading f) b turns)
+  where
+    abbrev call : Call
+    call = record { buffer = b₁; filled = r .count }
+
+    go : Tested (eqb (t .answer f call) 0) → Arrived step st (reading (t .next f call)) (t .left f call) (turns + 1)
+    go (holds e) =
+        let zero = eqb-true (t .answer f call) 0 e in
+        coe 1 0 (i. Arrived step st (goes-on .next f call zero i) (goes-on .left f call zero i) (turns + 1))
+        (arrives-piece step st (reading f) b b₁ turns r on a came small)
+    go (fails e) =
+        let same = stays f call (eqb-false (t .answer f call) 0 e) in
+        coe 1 0 (i. Arrived step st (reading (same .0 i)) (same .1 i) (turns + 1)) (arrives-nothing step st (reading f) b b₁ turns r on a)
+
+    pub turn-taken : Arrived step st (reading (t .next f call)) (t .left f call) (turns + 1)
+    turn-taken = go (test (eqb (t .answer f call) 0))

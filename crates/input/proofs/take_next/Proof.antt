@@ -5,9 +5,10 @@ use native.Mathlib.Omega.{arith}
 use borrow.Author.Needs.{needs}
 use Rattle.book.specs.Book.{takeRecord}
 use Rattle.refill.specs.Arrive.{Arrived}
-use Rattle.refill.proofs.ArriveLaws.{arrives-within, arrives-nothing}
+use Rattle.refill.proofs.ArriveLaws.{arrives-within, arrives-nothing, turn-taken}
 use Rattle.book_pieces.specs.Feed.{readingOf}
-use Rattle.input.proofs.TurnLaws.{turn-taken}
+use Rattle.book_pieces.specs.Calls.{taker}
+use Rattle.book_pieces.proofs.CallLaws.{reading, goes-on, stays}
 use Rattle.input.proofs.take_next.Statement.{statement}
 use Rattle.input.proofs.take_next.Tie as tie
 
@@ -26,7 +27,7 @@ returns-3 c st turns a =
     let read = c .before .before .before .before .before .before .before .before .before .before .before .before .read-behind in
     let e = c .before .before .before .before .before .before .take-piece .ensures in
     coe 1 0 (i. Arrived takeRecord st (readingOf (e .0 i .feed) (e .1 i)) (e .2 i) (turns + 1))
-    (turn-taken (s .feed) (s .map .now) (s .buffer .now) (read .last .1 .0) (read .result) (read .ensures) (c .before .before .before .before .before .before .before .before .before .if2 .left) (c .before .before .before .before .before .before .before .before .before .before .before .before .before .before .before .before .before .pre) st turns a)
+    (turn-taken takeRecord taker reading goes-on stays (record { feed = s .feed; map = s .map .now }) (s .buffer .now) (read .last .1 .0) (read .result) (read .ensures) (c .before .before .before .before .before .before .before .before .before .if2 .left) (c .before .before .before .before .before .before .before .before .before .before .before .before .before .before .before .before .before .pre) st turns a)
 
 pub take-next-spec : {M : Type 1} → statement M
 take-next-spec =
