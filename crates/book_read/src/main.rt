@@ -50,88 +50,57 @@ fn say(out: &mut [u8], page: Page, words: &[u8]) -> Page {
 
 // ---- what is said of a record, in a comment above it
 
-// The refusals by bytes, by sheet and by codes.
-fn say_refused_form(out: &mut [u8], page: Page, answer: u8) -> Page {
-    if answer == 3 {
-        return say(
-            out,
-            page,
-            b"# refused, 3: a book takes year sheets, simple events and stepped events, and this is none of them\n",
-        );
+// The answer to a broken length.
+const BROKEN: usize = 2;
+
+// The comments on a record, one to a line here: the one on answer n stands from STARTS[n] to STARTS[n + 1]. Of 1, 8 and 9 there is none: in a book that is
+// read from its beginning map and ledger are sound, 8, 9 and 16 are the desk's, and a ledger that is full (15) has every number marked (14).
+const COMMENTS: [u8; 979] = *b"# accepted\n\
+    # refused, 2: the length in front of these bytes is wrong or they break off, and nothing after it can be read\n\
+    # refused, 3: a book takes year sheets, simple events and stepped events, and this is none of them\n\
+    # refused, 4: the length is wrong for this kind of record, or it does not have 1 to 64 steps\n\
+    # refused, 5: an event needs a year sheet before it, and a book takes one sheet only\n\
+    # refused, 6: the year is not 2000 to 2099, or a level has more than 10,000,000 customers\n\
+    # refused, 7: the number is 0, or the type, the voltage or the cause is not one of the annex's\n\
+    # refused, 10: the times are out of order, or past the year's end or minute 600,000, or a planned outage has T1 after T0\n\
+    # refused, 11: more customers are off on a level than the year sheet has there\n\
+    # refused, 12: customers are off on a level above the one of the event's voltage\n\
+    # refused, 13: on some level n1 is 0 and n2 is not\n\
+    # refused, 14: an event with this number is in the book already\n";
+
+const STARTS: [usize; 16] = [
+    0,
+    11,
+    11,
+    121,
+    220,
+    313,
+    398,
+    488,
+    583,
+    583,
+    583,
+    704,
+    783,
+    864,
+    915,
+    979,
+];
+
+// The comment on an answer, or nothing where there is none.
+fn say_comment(out: &mut [u8], page: Page, answer: usize) -> Page {
+    let starts = STARTS;
+    if 15 <= answer {
+        return page;
     }
-    if answer == 4 {
-        return say(
-            out,
-            page,
-            b"# refused, 4: the length is wrong for this kind of record, or it does not have 1 to 64 steps\n",
-        );
-    }
-    if answer == 5 {
-        return say(
-            out,
-            page,
-            b"# refused, 5: an event needs a year sheet before it, and a book takes one sheet only\n",
-        );
-    }
-    if answer == 6 {
-        return say(
-            out,
-            page,
-            b"# refused, 6: the year is not 2000 to 2099, or a level has more than 10,000,000 customers\n",
-        );
-    }
-    if answer == 7 {
-        return say(
-            out,
-            page,
-            b"# refused, 7: the number is 0, or the type, the voltage or the cause is not one of the annex's\n",
-        );
-    }
-    page
+    say(
+        out,
+        page,
+        wire::part(&COMMENTS, starts[answer], starts[answer + 1]),
+    )
 }
 
-// The refusals by times, counts and numbers. No other number is answered to a record of a book that is read from its beginning: map and ledger are sound,
-// 8, 9 and 16 are the desk's, and a ledger that is full (15) has every number marked (14).
-fn say_refused_event(out: &mut [u8], page: Page, answer: u8) -> Page {
-    if answer == 10 {
-        return say(
-            out,
-            page,
-            b"# refused, 10: the times are out of order, or past the year's end or minute 600,000, or a planned outage has T1 after T0\n",
-        );
-    }
-    if answer == 11 {
-        return say(
-            out,
-            page,
-            b"# refused, 11: more customers are off on a level than the year sheet has there\n",
-        );
-    }
-    if answer == 12 {
-        return say(
-            out,
-            page,
-            b"# refused, 12: customers are off on a level above the one of the event's voltage\n",
-        );
-    }
-    if answer == 13 {
-        return say(
-            out,
-            page,
-            b"# refused, 13: on some level n1 is 0 and n2 is not\n",
-        );
-    }
-    if answer == 14 {
-        return say(
-            out,
-            page,
-            b"# refused, 14: an event with this number is in the book already\n",
-        );
-    }
-    page
-}
-
-fn say_accepted(out: &mut [u8], page: Page, short: bool) -> Page {
+fn say_answer(out: &mut [u8], page: Page, answer: u8, short: bool) -> Page {
     if short {
         return say(
             out,
@@ -139,17 +108,7 @@ fn say_accepted(out: &mut [u8], page: Page, short: bool) -> Page {
             b"# accepted as short: 3 minutes or less, added to no total\n",
         );
     }
-    say(out, page, b"# accepted\n")
-}
-
-fn say_answer(out: &mut [u8], page: Page, answer: u8, short: bool) -> Page {
-    if answer == 0 {
-        return say_accepted(out, page, short);
-    }
-    if answer < 8 {
-        return say_refused_form(out, page, answer);
-    }
-    say_refused_event(out, page, answer)
+    say_comment(out, page, answer as usize)
 }
 
 // ---- lines
@@ -192,17 +151,12 @@ fn say_record(out: &mut [u8], page: Page, record: &[u8], year: u16) -> Page {
 }
 
 fn say_first(out: &mut [u8]) -> Page {
-    let begun = Page { at: 0, lost: false };
-    let sheet = say(out, begun, b"# sheet: year | customers on NN VN VVN\n");
-    let simple = say(
-        out,
-        sheet,
-        b"# simple: number type voltage cause | T0 T1 T2 T3 T4 | n1 on NN VN VVN | n2 on NN VN VVN\n",
-    );
     say(
         out,
-        simple,
-        b"# stepped: number type voltage cause | T0 | for each step its time, and who was off until then on NN VN VVN\n",
+        Page { at: 0, lost: false },
+        b"# sheet: year | customers on NN VN VVN\n\
+        # simple: number type voltage cause | T0 T1 T2 T3 T4 | n1 on NN VN VVN | n2 on NN VN VVN\n\
+        # stepped: number type voltage cause | T0 | for each step its time, and who was off until then on NN VN VVN\n",
     )
 }
 
@@ -257,27 +211,6 @@ fn take_records(begun: Reading, map: &mut [u8], bytes: &[u8], out: &mut [u8]) ->
 
 // ---- the book
 
-// How many bytes of the buffer are filled, and whether the read failed.
-struct Filled {
-    count: usize,
-    failed: bool,
-}
-
-// Reads once behind the bytes held at the front of a buffer. At the end of the input there are as many as before.
-fn read_behind(buffer: &mut [u8], held: usize) -> Filled {
-    if buffer.len() <= held {
-        return Filled {
-            count: held,
-            failed: true,
-        };
-    }
-    let got = libc::read(STDIN_FILENO, &mut buffer[held..]);
-    Filled {
-        count: held + io::count(got, buffer),
-        failed: got < 0,
-    }
-}
-
 // Where the reading of a book stands after a piece of it: the bytes of a record that is not whole yet, whether the reading has ended, and whether a read
 // failed.
 struct Piece {
@@ -313,8 +246,8 @@ fn say_rest(begun: Page, buffer: &mut [u8], count: usize, out: &mut [u8]) -> Res
         let whole = held - over;
         page = say_bytes(out, page, wire::part(&buffer[..], 0, whole));
         records::move_to_front(buffer, whole, held);
-        let filled = read_behind(buffer, over);
-        if filled.failed | (filled.count == over) {
+        let filled = refill::read_behind(STDIN_FILENO, buffer, over);
+        if filled.ended {
             return Rest {
                 page,
                 held: over,
@@ -329,14 +262,6 @@ fn say_rest(begun: Page, buffer: &mut [u8], count: usize, out: &mut [u8]) -> Res
         held: 0,
         failed: true,
     }
-}
-
-fn say_broken(out: &mut [u8], page: Page) -> Page {
-    say(
-        out,
-        page,
-        b"# refused, 2: the length in front of these bytes is wrong or they break off, and nothing after it can be read\n",
-    )
 }
 
 // The page, and whether a read failed.
@@ -357,7 +282,7 @@ fn say_all(begun: Page, buffer: &mut [u8], held: usize, out: &mut [u8]) -> Outco
 
 fn end_with_rest(reading: Reading, buffer: &mut [u8], held: usize, out: &mut [u8]) -> Piece {
     let ledger = reading.ledger;
-    let begun = say_broken(out, reading.page);
+    let begun = say_comment(out, reading.page, BROKEN);
     let outcome = say_all(begun, buffer, held, out);
     let page = outcome.page;
     ended(
@@ -409,11 +334,11 @@ fn take_piece(
     held: usize,
     out: &mut [u8],
 ) -> Piece {
-    let filled = read_behind(buffer, held);
+    let filled = refill::read_behind(STDIN_FILENO, buffer, held);
     if filled.failed {
         return ended(reading, true);
     }
-    if filled.count != held {
+    if !filled.ended {
         return take_arrived(reading, map, buffer, filled.count, out);
     }
     if held == 0 {
