@@ -18,104 +18,74 @@ fn tell(words: &[u8]) {
     io::write_all(STDERR_FILENO, words);
 }
 
-// What was expected of a line and of its numbers.
-fn tell_number(answer: u8) {
-    if answer == text_scan::WORD {
-        tell(b"expected sheet, simple, stepped or hex at the line's beginning");
-    }
-    if answer == text_scan::NUMBER {
-        tell(b"expected a whole number in decimal digits");
-    }
-    if answer == text_scan::AT_MOST_255 {
-        tell(b"expected a number of at most 255");
-    }
-    if answer == text_scan::AT_MOST_65535 {
-        tell(b"expected a number of at most 65535");
-    }
-    if answer == text_scan::AT_MOST_4294967295 {
-        tell(b"expected a number of at most 4294967295");
-    }
-    if answer == text_scan::TWO_DIGITS {
-        tell(b"expected two hexadecimal digits");
-    }
-}
+// What is told of a wrong line, one to a line here: what stands in the place of another thing, and what to write, by likeness's numbers from 1 to 5; then what
+// was expected, by scan's from 1 to 15. The n-th stands from STARTS[n] to STARTS[n + 1].
+const SENTENCES: [u8; 1345] =
+    *b"a byte-order mark: save the text without one, in a spreadsheet as CSV and not as CSV UTF-8\
+    a quotation mark: write words and numbers without any\
+    a word in capital letters: write sheet, simple, stepped or hex in small ones\
+    a header row: write # before it, and it is a comment\
+    a time of another form: write MM-DD hh:mm, as 03-14 01:24, or minutes from 1 January 00:00\
+    expected sheet, simple, stepped or hex at the line's beginning\
+    expected a whole number in decimal digits\
+    expected a number of at most 255\
+    expected a number of at most 65535\
+    expected a number of at most 4294967295\
+    expected a time: minutes from 1 January 00:00, or MM-DD hh:mm\
+    expected a sheet that is in range on a line before a time as MM-DD hh:mm; minutes can be written without one\
+    expected a day of the sheet's year, and a time from 00:00 to 23:59\
+    expected two hexadecimal digits\
+    expected a space, a tab, a comma, a semicolon or a bar\
+    expected the line's end: a sheet has 4 numbers, a simple event 15, a stepped event at most 64 steps, hex at most 32 bytes\
+    expected more numbers: a sheet has 4, a simple event 15, a stepped event 5 and then 4 for each step, hex at least one byte\
+    expected the line's separator: one of comma, semicolon and tab parts all its cells\
+    expected the line's separator: in a line of cells a space or a bar alone parts nothing; write 1000, not 1 000\
+    an empty cell; write 0";
 
-// What was expected of a time, and of how many numbers there are.
-fn tell_place(answer: u8) {
-    if answer == text_scan::TIME {
-        tell(b"expected a time: minutes from 1 January 00:00, or MM-DD hh:mm");
-    }
-    if answer == text_scan::SHEET_BEFORE {
-        tell(
-            b"expected a sheet that is in range on a line before a time as MM-DD hh:mm; minutes can be written without one",
-        );
-    }
-    if answer == text_scan::DAY_OF_YEAR {
-        tell(b"expected a day of the sheet's year, and a time from 00:00 to 23:59");
-    }
-    if answer == text_scan::GAP {
-        tell(b"expected a space, a tab, a comma, a semicolon or a bar");
-    }
-    if answer == text_scan::NO_MORE {
-        tell(
-            b"expected the line's end: a sheet has 4 numbers, a simple event 15, a stepped event at most 64 steps, hex at most 32 bytes",
-        );
-    }
-    if answer == text_scan::MORE {
-        tell(
-            b"expected more numbers: a sheet has 4, a simple event 15, a stepped event 5 and then 4 for each step, hex at least one byte",
-        );
-    }
-}
+const STARTS: [usize; 22] = [
+    0,
+    0,
+    90,
+    143,
+    219,
+    271,
+    361,
+    423,
+    464,
+    496,
+    530,
+    569,
+    630,
+    738,
+    804,
+    835,
+    889,
+    1010,
+    1132,
+    1214,
+    1323,
+    1345,
+];
 
-// What was expected between the cells of a line, or stands there.
-fn tell_cell(answer: u8) {
-    if answer == text_scan::OTHER_SEPARATOR {
-        tell(b"expected the line's separator: one of comma, semicolon and tab parts all its cells");
-    }
-    if answer == text_scan::SEPARATOR {
-        tell(
-            b"expected the line's separator: in a line of cells a space or a bar alone parts nothing; write 1000, not 1 000",
-        );
-    }
-    if answer == text_scan::EMPTY_CELL {
-        tell(b"an empty cell; write 0");
-    }
-}
+// The sentences of likeness, before scan's.
+const LIKENESSES: usize = 5;
 
-// What stands in a line where another thing was expected, and what to write.
-fn tell_likeness(likeness: u8) {
-    if likeness == likeness::BYTE_ORDER_MARK {
-        tell(
-            b"a byte-order mark: save the text without one, in a spreadsheet as CSV and not as CSV UTF-8",
-        );
+fn tell_sentence(n: usize) {
+    let starts = STARTS;
+    if 21 <= n {
+        return;
     }
-    if likeness == likeness::QUOTED {
-        tell(b"a quotation mark: write words and numbers without any");
-    }
-    if likeness == likeness::CAPITALS {
-        tell(b"a word in capital letters: write sheet, simple, stepped or hex in small ones");
-    }
-    if likeness == likeness::HEADER {
-        tell(b"a header row: write # before it, and it is a comment");
-    }
-    if likeness == likeness::OTHER_TIME {
-        tell(
-            b"a time of another form: write MM-DD hh:mm, as 03-14 01:24, or minutes from 1 January 00:00",
-        );
-    }
+    tell(wire::part(&SENTENCES, starts[n], starts[n + 1]));
 }
 
 // What is wrong at a place of a line: what stands there where it has a name, and else what was expected.
 fn tell_wrong(text: &[u8], at: usize, answer: u8, year: u16) {
     let likeness = likeness::likeness_of(text, at, answer, year);
     if likeness != 0 {
-        tell_likeness(likeness);
+        tell_sentence(likeness as usize);
         return;
     }
-    tell_number(answer);
-    tell_place(answer);
-    tell_cell(answer);
+    tell_sentence(LIKENESSES + answer as usize);
 }
 
 // The place in the text: its name, the line and the column, each from 1.
@@ -269,27 +239,6 @@ fn take_lines(name: &[u8], begun: Reading, text: &[u8], writing: bool, out: &mut
 
 // ---- the text
 
-// How many bytes of the buffer are filled, and whether the read failed.
-struct Filled {
-    count: usize,
-    failed: bool,
-}
-
-// Reads once behind the bytes held at the front of a buffer. At the end of the input there are as many as before.
-fn read_behind(fd: i32, buffer: &mut [u8], held: usize) -> Filled {
-    if buffer.len() <= held {
-        return Filled {
-            count: held,
-            failed: true,
-        };
-    }
-    let got = libc::read(fd, &mut buffer[held..]);
-    Filled {
-        count: held + io::count(got, buffer),
-        failed: got < 0,
-    }
-}
-
 // The last line, which has no newline, and the bytes that still wait. Whether the text is wrong or the book cannot be written.
 fn take_last(name: &[u8], reading: Reading, text: &[u8], writing: bool, out: &mut [u8]) -> bool {
     if text.len() == 0 {
@@ -360,12 +309,12 @@ fn take_piece(
         tell(b"expected a line of at most 65535 bytes\n");
         return ended(reading, true);
     }
-    let filled = read_behind(fd, buffer, held);
+    let filled = refill::read_behind(fd, buffer, held);
     if filled.failed {
         complain(name, b" cannot be read\n");
         return ended(reading, true);
     }
-    if filled.count == held {
+    if filled.ended {
         let wrong = take_last(
             name,
             reading,
