@@ -211,7 +211,7 @@ fn take_records(begun: Reading, map: &mut [u8], bytes: &[u8], out: &mut [u8]) ->
 
 // ---- the book
 
-// Where the reading of a book stands after a piece of it: the bytes of a record that is not whole yet, whether the reading has ended, and whether a read
+// Where the reading of a book stands after a piece of it: the bytes held of a record that is not whole yet, whether none can follow, and whether the reading
 // failed.
 struct Piece {
     reading: Reading,
@@ -220,14 +220,78 @@ struct Piece {
     failed: bool,
 }
 
-fn ended(reading: Reading, failed: bool) -> Piece {
+// The end of a reading. One that failed holds nothing.
+fn ended(reading: Reading, held: usize, failed: bool) -> Piece {
+    if failed {
+        return Piece {
+            reading,
+            held: 0,
+            ended: true,
+            failed,
+        };
+    }
     Piece {
         reading,
-        held: 0,
+        held,
         ended: true,
         failed,
     }
 }
+
+// Holds what no whole record was read of.
+fn hold(records: Records, buffer: &mut [u8], count: usize) -> Piece {
+    let reading = records.reading;
+    if count < records.stop {
+        return ended(reading, 0, true);
+    }
+    let held = count - records.stop;
+    records::move_to_front(buffer, records.stop, count);
+    Piece {
+        reading,
+        held,
+        ended: records::is_dead(&buffer[..], held),
+        failed: false,
+    }
+}
+
+// One piece more of a book: its whole records are taken, and the rest is held.
+fn take_piece(
+    reading: Reading,
+    map: &mut [u8],
+    buffer: &mut [u8],
+    held: usize,
+    out: &mut [u8],
+) -> Piece {
+    let filled = refill::read_behind(STDIN_FILENO, buffer, held);
+    if filled.ended {
+        return ended(reading, held, filled.failed);
+    }
+    let bytes = wire::part(&buffer[..], 0, filled.count);
+    hold(take_records(reading, map, bytes, out), buffer, filled.count)
+}
+
+// Takes the records of a book, to its end or to a broken length.
+fn read_book(begun: Page, map: &mut [u8], buffer: &mut [u8], out: &mut [u8]) -> Piece {
+    let mut reading = Reading {
+        ledger: Ledger::empty(),
+        year: 0,
+        page: begun,
+    };
+    let mut held: usize = 0;
+    let mut pieces: u64 = 0;
+    while pieces < MOST_PIECES {
+        let piece = take_piece(reading, map, buffer, held, out);
+        if piece.ended {
+            return piece;
+        }
+        reading = piece.reading;
+        held = piece.held;
+        pieces += 1;
+    }
+    ended(reading, 0, true)
+}
+
+// ---- what no record was read of
 
 // The bytes from a broken length on: the page, how many of them are left at the front of the buffer, less than a line of them, and whether a read failed.
 struct Rest {
@@ -264,113 +328,33 @@ fn say_rest(begun: Page, buffer: &mut [u8], count: usize, out: &mut [u8]) -> Res
     }
 }
 
-// The page, and whether a read failed.
-struct Outcome {
-    page: Page,
-    failed: bool,
-}
-
-// Says all bytes from a broken length on.
-fn say_all(begun: Page, buffer: &mut [u8], held: usize, out: &mut [u8]) -> Outcome {
+// Says all bytes from a broken length on, where the book did not end at a record's end.
+fn say_left(page: Page, buffer: &mut [u8], held: usize, out: &mut [u8]) -> Rest {
+    if held == 0 {
+        return Rest {
+            page,
+            held,
+            failed: false,
+        };
+    }
+    let begun = say_comment(out, page, BROKEN);
     let rest = say_rest(begun, buffer, held, out);
-    let page = say_bytes(out, rest.page, wire::part(&buffer[..], 0, rest.held));
-    Outcome {
-        page,
+    Rest {
+        page: say_bytes(out, rest.page, wire::part(&buffer[..], 0, rest.held)),
+        held: 0,
         failed: rest.failed,
     }
 }
 
-fn end_with_rest(reading: Reading, buffer: &mut [u8], held: usize, out: &mut [u8]) -> Piece {
-    let ledger = reading.ledger;
-    let begun = say_comment(out, reading.page, BROKEN);
-    let outcome = say_all(begun, buffer, held, out);
-    let page = outcome.page;
-    ended(
-        Reading {
-            ledger,
-            year: reading.year,
-            page,
-        },
-        outcome.failed,
-    )
-}
+// ---- what goes wrong: one line each on standard error
 
-// Holds what no whole record was read of.
-fn hold(records: Records, buffer: &mut [u8], count: usize, out: &mut [u8]) -> Piece {
-    let reading = records.reading;
-    if count < records.stop {
-        return ended(reading, true);
+fn complain(lost: bool, failed: bool) {
+    if lost {
+        io::write_all(STDERR_FILENO, b"book_read: the text cannot be written\n");
     }
-    let held = count - records.stop;
-    records::move_to_front(buffer, records.stop, count);
-    if records::is_dead(&buffer[..], held) {
-        return end_with_rest(reading, buffer, held, out);
+    if failed {
+        io::write_all(STDERR_FILENO, b"book_read: standard input cannot be read\n");
     }
-    Piece {
-        reading,
-        held,
-        ended: false,
-        failed: false,
-    }
-}
-
-// What has arrived behind the bytes held at the front of the buffer: its whole records are taken, and the rest is held.
-fn take_arrived(
-    begun: Reading,
-    map: &mut [u8],
-    buffer: &mut [u8],
-    count: usize,
-    out: &mut [u8],
-) -> Piece {
-    let records = take_records(begun, map, wire::part(&buffer[..], 0, count), out);
-    hold(records, buffer, count, out)
-}
-
-// One piece more of a book.
-fn take_piece(
-    reading: Reading,
-    map: &mut [u8],
-    buffer: &mut [u8],
-    held: usize,
-    out: &mut [u8],
-) -> Piece {
-    let filled = refill::read_behind(STDIN_FILENO, buffer, held);
-    if filled.failed {
-        return ended(reading, true);
-    }
-    if !filled.ended {
-        return take_arrived(reading, map, buffer, filled.count, out);
-    }
-    if held == 0 {
-        return ended(reading, false);
-    }
-    end_with_rest(reading, buffer, held, out)
-}
-
-// Reads the book to its end.
-fn read_book(begun: Page, map: &mut [u8], buffer: &mut [u8], out: &mut [u8]) -> Outcome {
-    let mut reading = Reading {
-        ledger: Ledger::empty(),
-        year: 0,
-        page: begun,
-    };
-    let mut held: usize = 0;
-    let mut pieces: u64 = 0;
-    while pieces < MOST_PIECES {
-        let piece = take_piece(reading, map, buffer, held, out);
-        reading = piece.reading;
-        let page = reading.page;
-        if piece.ended {
-            return Outcome {
-                page,
-                failed: piece.failed,
-            };
-        }
-        held = piece.held;
-        pieces += 1;
-    }
-    let page = reading.page;
-    Outcome { page, failed: true }
 }
 
 fn main() {
@@ -378,11 +362,8 @@ fn main() {
     let mut buffer = io::large_buffer();
     let mut out = io::large_buffer();
     let begun = say_first(&mut out);
-    let outcome = read_book(begun, &mut map, &mut buffer, &mut out);
-    if write_out(&out[..], outcome.page).lost {
-        io::write_all(STDERR_FILENO, b"book_read: the text cannot be written\n");
-    }
-    if outcome.failed {
-        io::write_all(STDERR_FILENO, b"book_read: standard input cannot be read\n");
-    }
+    let piece = read_book(begun, &mut map, &mut buffer, &mut out);
+    let rest = say_left(piece.reading.page, &mut buffer, piece.held, &mut out);
+    let page = write_out(&out[..], rest.page);
+    complain(page.lost, piece.failed | rest.failed);
 }
