@@ -23,9 +23,25 @@ fn with_index(t: Text, ledger: Ledger, index: Index, level: Level, set: Set) -> 
     }
 }
 
+fn with_level(t: Text, level: Level) -> Text {
+    match level {
+        Level::NN => t.with_words(b"NN"),
+        Level::VN => t.with_words(b"VN"),
+        Level::VVN => t.with_words(b"VVN"),
+        Level::Network => t.with_words(b"SYS"),
+    }
+}
+
+fn with_set(t: Text, set: Set) -> Text {
+    match set {
+        Set::All | Set::Unnamed => t.with_words(b" all"),
+        Set::Std => t.with_words(b" std"),
+    }
+}
+
 // One line: level and set, then SAIFI, SAIDI and CAIDI.
-fn line(words: &[u8], ledger: Ledger, level: Level, set: Set) -> Text {
-    let begun = Text::empty().with_words(words);
+fn line(ledger: Ledger, level: Level, set: Set) -> Text {
+    let begun = with_set(with_level(Text::empty(), level), set);
     let saifi = with_index(begun, ledger, Index::Saifi, level, set);
     let saidi = with_index(saifi, ledger, Index::Saidi, level, set);
     with_index(saidi, ledger, Index::Caidi, level, set).with_byte(b'\n')
@@ -59,11 +75,11 @@ fn say(t: Text) -> bool {
     io::write_all(STDOUT_FILENO, wire::part(&bytes, 0, t.len))
 }
 
-fn say_set(ledger: Ledger, set: Set, nn: &[u8], vn: &[u8], vvn: &[u8], network: &[u8]) -> bool {
-    say(line(nn, ledger, Level::NN, set))
-        & say(line(vn, ledger, Level::VN, set))
-        & say(line(vvn, ledger, Level::VVN, set))
-        & say(line(network, ledger, Level::Network, set))
+fn say_set(ledger: Ledger, set: Set) -> bool {
+    say(line(ledger, Level::NN, set))
+        & say(line(ledger, Level::VN, set))
+        & say(line(ledger, Level::VVN, set))
+        & say(line(ledger, Level::Network, set))
 }
 
 fn say_figures(ledger: Ledger) -> bool {
@@ -71,22 +87,7 @@ fn say_figures(ledger: Ledger) -> bool {
     if !sheet.there {
         return true;
     }
-    say_set(
-        ledger,
-        Set::All,
-        b"NN all",
-        b"VN all",
-        b"VVN all",
-        b"SYS all",
-    )
-        & say_set(
-            ledger,
-            Set::Std,
-            b"NN std",
-            b"VN std",
-            b"VVN std",
-            b"SYS std",
-        )
+    say_set(ledger, Set::All) & say_set(ledger, Set::Std)
 }
 
 fn complain(why: &[u8]) {
