@@ -8,7 +8,7 @@ use native.Mathlib.Omega.{arith}
 use Rattle.base.proofs.TestLaws.{Tested, holds, fails, test}
 use Rattle.wire.specs.Cut.{joined}
 use Rattle.element_table.specs.declared.Table.{Table}
-use Rattle.element_table.specs.Table.{soundTable, marked}
+use Rattle.element_table.specs.Table.{soundTable, seenAs}
 use Rattle.element_table.proofs.ExactlyThen.{file-exactly-0}
 use Rattle.element_file.specs.declared.Reading.{Reading}
 use Rattle.element_file.specs.Yearly.{starting, takeRecord, fileOf}
@@ -33,14 +33,14 @@ module _ (t : Table) (r : Flowed) (e : r ≡ begunOf t) where
     table-sound = file-exactly-0 t .0 (ap (λ (x : Flowed). x .answer) (sym e) ∙ zero)
 
     -- where it is begun nothing has come yet
-    pub begun-arrived : (b : List ℕ) → Arrived takeRecord (starting (marked false t)) (readingOf (r .flow)) b 0
+    pub begun-arrived : (b : List ℕ) → Arrived takeRecord (starting (seenAs false t)) (readingOf (r .flow)) b 0
     begun-arrived b =
-        subst⁻¹ (λ (x : Flowed). Arrived takeRecord (starting (marked false t)) (readingOf (x .flow)) b 0) e
+        subst⁻¹ (λ (x : Flowed). Arrived takeRecord (starting (seenAs false t)) (readingOf (x .flow)) b 0) e
         (record { pieces = []; holds = begun-holding t b table-sound .1; few = omega arith })
 
     pub arrived-whole :
         (f : Inflow) (b : List ℕ) →
-        Arrived takeRecord (starting (marked false t)) (readingOf f) b mostTurns →
+        Arrived takeRecord (starting (seenAs false t)) (readingOf f) b mostTurns →
         ((bytes : List ℕ) × (finishedOf f ≡ fileOf t bytes))
     arrived-whole f b a =
         let few = count-fits t (a .pieces) f b (a .holds) (omega (arith, a .few)) in

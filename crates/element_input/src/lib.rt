@@ -3,7 +3,7 @@ ghost use Prim.Native.Nat.{ℕ, _+_, _≤_};
 ghost use mathlib.Core.Path.{_≡_};
 ghost use mathlib.Core.List.{List};
 ghost use lib.ListN.{length};
-ghost use Rattle.element_file.specs.Yearly.{State, takeRecord, fileOf};
+ghost use Rattle.element_file.specs.Yearly.{FileState, takeRecord, fileOf};
 ghost use Rattle.refill.specs.Arrive.{room, mostTurns, Arrived};
 ghost use Rattle.element_pieces.specs.Inflow.{readingOf};
 use element_file::Reading;
@@ -23,7 +23,7 @@ struct Turn {
 // One piece more, where a record can still follow.
 fn take_next(fd: i32, flow: Inflow, buffer: &mut [u8]) -> Turn
     requires { ⌜ length (now buffer) ≤ room ⌝ }
-    ensures { λ r. ⌜ ((st : State) (turns : ℕ) → Arrived takeRecord st (readingOf flow) (now (buffer .entry)) turns → Arrived takeRecord st (readingOf (r .flow)) (now (buffer .exit)) (turns + 1)) ⌝ }
+    ensures { λ r. ⌜ ((st : FileState) (turns : ℕ) → Arrived takeRecord st (readingOf flow) (now (buffer .entry)) turns → Arrived takeRecord st (readingOf (r .flow)) (now (buffer .exit)) (turns + 1)) ⌝ }
 {
     if flow.dead {
         return Turn {
@@ -53,7 +53,7 @@ fn take_next(fd: i32, flow: Inflow, buffer: &mut [u8]) -> Turn
 // Turn after turn, to the end of the input or to a length below 4, after which nothing can follow.
 fn take_all(fd: i32, begun: Inflow, buffer: &mut [u8]) -> Turn
     requires { ⌜ length (now buffer) ≤ room ⌝ }
-    ensures { λ r. ⌜ ((st : State) → Arrived takeRecord st (readingOf begun) (now (buffer .entry)) 0 → Arrived takeRecord st (readingOf (r .flow)) (now (buffer .exit)) mostTurns) ⌝ }
+    ensures { λ r. ⌜ ((st : FileState) → Arrived takeRecord st (readingOf begun) (now (buffer .entry)) 0 → Arrived takeRecord st (readingOf (r .flow)) (now (buffer .exit)) mostTurns) ⌝ }
 {
     let mut flow = begun;
     let mut turns: u64 = 0;

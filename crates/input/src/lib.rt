@@ -5,7 +5,7 @@ ghost use mathlib.Core.List.{List};
 ghost use lib.ListN.{length, replicate};
 ghost use Rattle.used_numbers.specs.Marks.{mapSize};
 ghost use Rattle.ledger.specs.Ledger.{emptyLedger};
-ghost use Rattle.book.specs.Book.{State, starting, takeRecord, readOf};
+ghost use Rattle.book.specs.Book.{BookState, starting, takeRecord, readOf};
 ghost use Rattle.refill.specs.Arrive.{room, mostTurns, Arrived};
 ghost use Rattle.book_pieces.specs.Feed.{readingOf};
 use book::Read;
@@ -25,7 +25,7 @@ struct Turn {
 // One piece more, where a record can still follow.
 fn take_next(fd: i32, feed: Feed, map: &mut [u8], buffer: &mut [u8]) -> Turn
     requires { ⌜ length (now buffer) ≤ room ⌝ }
-    ensures { λ r. ⌜ ((st : State) (turns : ℕ) → Arrived takeRecord st (readingOf feed (now (map .entry))) (now (buffer .entry)) turns → Arrived takeRecord st (readingOf (r .feed) (now (map .exit))) (now (buffer .exit)) (turns + 1)) ⌝ }
+    ensures { λ r. ⌜ ((st : BookState) (turns : ℕ) → Arrived takeRecord st (readingOf feed (now (map .entry))) (now (buffer .entry)) turns → Arrived takeRecord st (readingOf (r .feed) (now (map .exit))) (now (buffer .exit)) (turns + 1)) ⌝ }
 {
     if feed.dead {
         return Turn {

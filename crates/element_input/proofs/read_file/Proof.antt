@@ -3,7 +3,7 @@ use mathlib.Core.Path.{_∙_}
 use mathlib.Core.Bool.{false}
 use mathlib.Core.List.{[]}
 use borrow.Author.Needs.{needs}
-use Rattle.element_table.specs.Table.{marked}
+use Rattle.element_table.specs.Table.{seenAs}
 use Rattle.element_file.specs.Yearly.{starting}
 use Rattle.element_input.proofs.WholeLaws.{unread, begun-arrived, arrived-whole}
 use Rattle.element_input.proofs.read_file.Statement.{statement}
@@ -20,7 +20,7 @@ returns-2 c =
     let begun = c .before .before .before .before .before .before .before .begin in
     let zero = c .before .before .before .before .before .if1 .left in
     let all = c .before .before .take-all in
-    let came = all .ensures (starting (marked false t)) (begun-arrived t (begun .result) (begun .ensures) zero (c .before .before .before .before .large-buffer .result)) in
+    let came = all .ensures (starting (seenAs false t)) (begun-arrived t (begun .result) (begun .ensures) zero (c .before .before .before .before .large-buffer .result)) in
     let w = arrived-whole t (begun .result) (begun .ensures) zero (all .result .flow) (all .last .1 .1 .0) came in
     (w .0, c .finish .ensures ∙ w .1)
 

@@ -4,7 +4,7 @@ use mathlib.Core.Path.{_≡_, refl, _∙_}
 use native.Mathlib.Omega.{arith}
 use lib.ListN.{length}
 use borrow.Author.Needs.{needs}
-use Rattle.element_file.specs.Yearly.{State, takeRecord}
+use Rattle.element_file.specs.Yearly.{FileState, takeRecord}
 use Rattle.refill.specs.Arrive.{mostTurns, Arrived}
 use Rattle.refill.proofs.ArriveLaws.{arrives-within}
 use Rattle.element_pieces.specs.Inflow.{readingOf}
@@ -13,7 +13,7 @@ use Rattle.element_input.proofs.take_all.Tie as tie
 
 abbrev Inv-loop : tie.InvT-loop
 Inv-loop fd buffer₀ flow₀ turns₀ buffer flow turns =
-    ((st : State) → Arrived takeRecord st (readingOf flow₀) buffer₀ 0 → Arrived takeRecord st (readingOf flow) buffer turns) ×
+    ((st : FileState) → Arrived takeRecord st (readingOf flow₀) buffer₀ 0 → Arrived takeRecord st (readingOf flow) buffer turns) ×
     ((turns ≤ mostTurns) × (length buffer ≡ length buffer₀))
 
 abbrev μ-loop : tie.MeasureT-loop
