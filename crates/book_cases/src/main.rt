@@ -93,7 +93,7 @@ fn with_digit(n: Numbers, digit: u64) -> Numbers {
 
 // The numbers past one byte more.
 fn with_byte(n: Numbers, b: u8) -> Numbers {
-    if (48 <= b) & (b <= 57) {
+    if (b'0' <= b) & (b <= b'9') {
         return with_digit(n, b as u64 % 16);
     }
     let mut next = n;
@@ -118,12 +118,12 @@ fn numbers_in(s: &[u8]) -> Numbers {
         n = with_byte(n, s[i]);
         i += 1;
     }
-    with_byte(n, 32)
+    with_byte(n, b' ')
 }
 
 // A word past, and the space behind it.
 fn past_word(s: &[u8]) -> &[u8] {
-    let rest = wire::part(s, place_of(s, 0, 32), s.len());
+    let rest = wire::part(s, place_of(s, 0, b' '), s.len());
     wire::part(rest, 1, rest.len())
 }
 
@@ -195,7 +195,7 @@ fn with_row(l: Ledger, v: [u64; 12]) -> Ledger {
     let mut next = l;
     let row = row_of(v);
     let at = place(v[0]);
-    if at < 7 {
+    if at < codes::ROWS {
         next.rows[at] = row;
     }
     next
@@ -273,7 +273,7 @@ fn first_of(bytes: &mut [u8], what: &[u8]) -> usize {
 
 // The bytes of a case, put where the ready ones stand: how many.
 fn put_bytes(bytes: &mut [u8], what: &[u8]) -> usize {
-    if wire::byte_at(what, 0) == 102 {
+    if wire::byte_at(what, 0) == b'f' {
         return first_of(bytes, what);
     }
     let parsed = text_parse::parse(what, 0);
@@ -319,8 +319,8 @@ fn print_marks(map: &[u8]) {
 fn print_taken(letter: u8, answer: u8, l: Ledger, map: &[u8]) {
     number(answer as u64);
     match letter {
-        97 => print_added(l),
-        109 => print_marks(map),
+        b'a' => print_added(l),
+        b'm' => print_marks(map),
         _ => {}
     }
 }
@@ -395,7 +395,7 @@ fn count(lent: [u8; 2048], what: &[u8]) {
 
 fn print_row(l: Ledger, typ: u64) {
     let at = place(typ);
-    if at < 7 {
+    if at < codes::ROWS {
         let row = l.rows[at];
         print_cell(row.levels[0]);
         print_cell(row.levels[1]);
@@ -410,9 +410,9 @@ fn tell(b: Bench, what: &[u8]) {
     let n = numbers_in(what);
     let v = n.values;
     match wire::byte_at(what, 0) {
-        101 => number(l.events as u64),
-        110 => ask(bytes, what),
-        99 => count(bytes, what),
+        b'e' => number(l.events as u64),
+        b'n' => ask(bytes, what),
+        b'c' => count(bytes, what),
         _ => print_row(l, v[0]),
     }
 }
@@ -421,9 +421,9 @@ fn tell(b: Bench, what: &[u8]) {
 fn run_asked(b: Bench, what: &[u8]) -> Bench {
     let letter = wire::byte_at(what, 0);
     match letter {
-        97 | 109 => taken(b, letter, past_word(what)),
-        98 => read(b, past_word(what)),
-        99 | 101 | 110 | 114 => {
+        b'a' | b'm' => taken(b, letter, past_word(what)),
+        b'b' => read(b, past_word(what)),
+        b'c' | b'e' | b'n' | b'r' => {
             tell(b, what);
             b
         }
@@ -437,7 +437,7 @@ fn run_case(b: Bench, line: &[u8], colon: usize) -> Bench {
     let rest = wire::part(line, colon, line.len());
     let next = run_asked(b, past_word(rest));
     word(b"\n");
-    if wire::byte_at(rest, 1) == 61 {
+    if wire::byte_at(rest, 1) == b'=' {
         return next;
     }
     b
@@ -448,10 +448,10 @@ fn lent(b: Bench, line: &[u8]) -> Bench {
     let n = numbers_in(line);
     let v = n.values;
     match wire::byte_at(line, 0) {
-        108 => with_ledger(b, v),
-        114 => with_row_set(b, v),
-        109 => with_map(b, v[0]),
-        98 => with_no_bytes(b),
+        b'l' => with_ledger(b, v),
+        b'r' => with_row_set(b, v),
+        b'm' => with_map(b, v[0]),
+        b'b' => with_no_bytes(b),
         _ => {
             wrong(line);
             b
@@ -459,29 +459,42 @@ fn lent(b: Bench, line: &[u8]) -> Bench {
     }
 }
 
-fn take_line(b: Bench, line: &[u8]) -> Bench {
-    if wire::byte_at(line, 0) == 45 {
-        word(line);
-        word(b"\n");
-        return b;
-    }
-    let parsed = text_parse::parse(line, 0);
-    if parsed.answer == 0 {
-        let told = parsed.entry;
-        return with_record(b, told);
-    }
-    let colon = place_of(line, 0, 58);
+// A line that is no heading and no record.
+fn take_other(b: Bench, line: &[u8]) -> Bench {
+    let colon = place_of(line, 0, b':');
     if colon < line.len() {
         return run_case(b, line, colon);
     }
     lent(b, line)
 }
 
+// A line that is no heading.
+fn take_words(b: Bench, line: &[u8]) -> Bench {
+    let parsed = text_parse::parse(line, 0);
+    let told = parsed.entry;
+    let answer = parsed.answer;
+    match answer {
+        0 => with_record(b, told),
+        _ => take_other(b, line),
+    }
+}
+
+fn take_line(b: Bench, line: &[u8]) -> Bench {
+    match wire::byte_at(line, 0) {
+        b'-' => {
+            word(line);
+            word(b"\n");
+            b
+        }
+        _ => take_words(b, line),
+    }
+}
+
 fn run(text: &[u8]) {
     let mut b = begun();
     let mut stop: usize = 0;
     while stop < text.len() {
-        let end = place_of(text, stop, 10);
+        let end = place_of(text, stop, b'\n');
         b = take_line(b, wire::part(text, stop, end));
         if text.len() <= end {
             return;

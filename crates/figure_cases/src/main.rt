@@ -146,7 +146,7 @@ fn with_digit(n: Numbers, digit: u64) -> Numbers {
 
 // The numbers past one byte more.
 fn with_byte(n: Numbers, b: u8) -> Numbers {
-    if (48 <= b) & (b <= 57) {
+    if (b'0' <= b) & (b <= b'9') {
         return with_digit(n, b as u64 % 16);
     }
     let mut next = n;
@@ -171,21 +171,21 @@ fn numbers_in(s: &[u8]) -> Numbers {
         n = with_byte(n, s[i]);
         i += 1;
     }
-    with_byte(n, 32)
+    with_byte(n, b' ')
 }
 
 // A word past, and the space behind it.
 fn past_word(s: &[u8]) -> &[u8] {
-    let rest = wire::part(s, place_of(s, 0, 32), s.len());
+    let rest = wire::part(s, place_of(s, 0, b' '), s.len());
     wire::part(rest, 1, rest.len())
 }
 
 // The index, the level and the set that words name.
 fn index_told(s: &[u8]) -> Index {
-    if wire::byte_at(s, 0) == 67 {
+    if wire::byte_at(s, 0) == b'C' {
         return Index::Caidi;
     }
-    if wire::byte_at(s, 3) == 68 {
+    if wire::byte_at(s, 3) == b'D' {
         return Index::Saidi;
     }
     Index::Saifi
@@ -193,10 +193,10 @@ fn index_told(s: &[u8]) -> Index {
 
 fn level_told(s: &[u8]) -> Level {
     match wire::byte_at(s, 0) {
-        78 => Level::NN,
-        83 => Level::Network,
+        b'N' => Level::NN,
+        b'S' => Level::Network,
         _ => {
-            if wire::byte_at(s, 1) == 78 {
+            if wire::byte_at(s, 1) == b'N' {
                 return Level::VN;
             }
             Level::VVN
@@ -206,8 +206,8 @@ fn level_told(s: &[u8]) -> Level {
 
 fn set_told(s: &[u8]) -> Set {
     match wire::byte_at(s, 0) {
-        97 => Set::All,
-        115 => Set::Std,
+        b'a' => Set::All,
+        b's' => Set::Std,
         _ => Set::Unnamed,
     }
 }
@@ -261,7 +261,7 @@ fn with_row(l: Ledger, v: [u64; 12]) -> Ledger {
     let mut next = l;
     let row = row_of(v);
     let at = place(v[0]);
-    if at < 7 {
+    if at < codes::ROWS {
         next.rows[at] = row;
     }
     next
@@ -270,7 +270,7 @@ fn with_row(l: Ledger, v: [u64; 12]) -> Ledger {
 fn with_rows(l: Ledger, v: [u64; 12]) -> Ledger {
     let mut next = l;
     let row = row_of(v);
-    next.rows = [row; 7];
+    next.rows = [row; codes::ROWS];
     next
 }
 
@@ -317,10 +317,10 @@ fn tell(l: Ledger, what: &[u8]) {
     let n = numbers_in(what);
     let v = n.values;
     match wire::byte_at(what, 0) {
-        67 | 83 => figure(l, what),
-        102 => print_shown(decimal::decimal_of(ratio::lowest(v[0], v[1]), (v[2] % 256) as u8)),
-        114 => print_report(l, v[0]),
-        101 => print_read(book_pieces::finish(feed_of(l, v[0], v[1], v[2]))),
+        b'C' | b'S' => figure(l, what),
+        b'f' => print_shown(decimal::decimal_of(ratio::lowest(v[0], v[1]), (v[2] % 256) as u8)),
+        b'r' => print_report(l, v[0]),
+        b'e' => print_read(book_pieces::finish(feed_of(l, v[0], v[1], v[2]))),
         _ => wrong(what),
     }
 }
@@ -363,7 +363,7 @@ fn run_case(b: Bench, line: &[u8], colon: usize) -> Bench {
     word(wire::part(line, 0, colon));
     let what = past_word(wire::part(line, colon, line.len()));
     let l = b.ledger;
-    if wire::byte_at(what, 0) == 112 {
+    if wire::byte_at(what, 0) == b'p' {
         let n = numbers_in(what);
         let v = n.values;
         return take_piece(b, v);
@@ -377,9 +377,9 @@ fn lent_ledger(l: Ledger, line: &[u8]) -> Ledger {
     let n = numbers_in(line);
     let v = n.values;
     match wire::byte_at(line, 0) {
-        108 => ledger_of(v),
-        114 => with_row(l, v),
-        97 => with_rows(l, v),
+        b'l' => ledger_of(v),
+        b'r' => with_row(l, v),
+        b'a' => with_rows(l, v),
         0 => l,
         _ => {
             wrong(line);
@@ -392,7 +392,7 @@ fn lent_ledger(l: Ledger, line: &[u8]) -> Ledger {
 fn lent(b: Bench, line: &[u8]) -> Bench {
     let l = b.ledger;
     let buffer = b.buffer;
-    if wire::byte_at(line, 0) == 98 {
+    if wire::byte_at(line, 0) == b'b' {
         let n = numbers_in(line);
         let v = n.values;
         return Bench {
@@ -408,7 +408,7 @@ fn lent(b: Bench, line: &[u8]) -> Bench {
 
 // A line that begins with neither # nor -.
 fn take_words(b: Bench, line: &[u8]) -> Bench {
-    let colon = place_of(line, 0, 58);
+    let colon = place_of(line, 0, b':');
     if line.len() <= colon {
         return lent(b, line);
     }
@@ -417,8 +417,8 @@ fn take_words(b: Bench, line: &[u8]) -> Bench {
 
 fn take_line(b: Bench, line: &[u8]) -> Bench {
     match wire::byte_at(line, 0) {
-        35 => b,
-        45 => {
+        b'#' => b,
+        b'-' => {
             word(line);
             word(b"\n");
             b
@@ -434,7 +434,7 @@ fn run(text: &[u8]) {
     };
     let mut stop: usize = 0;
     while stop < text.len() {
-        let end = place_of(text, stop, 10);
+        let end = place_of(text, stop, b'\n');
         b = take_line(b, wire::part(text, stop, end));
         if text.len() <= end {
             return;
