@@ -4,9 +4,9 @@
 //                              lends a ledger whose cells are all 0. THERE is 1 for a sheet; it is 0 for none, and the numbers are what stands in its place
 //   row TYPE | CUSTOMERS HALVES | CUSTOMERS HALVES | CUSTOMERS HALVES
 //                              sets the cells of a type in the lent ledger: NN, VN, VVN
-//   map SIZE                   lends an all-zero map of so many bytes
+//   map SIZE                   lends an all-zero map of so many bytes, at most 8,193
 //   bytes                      no bytes are ready
-//   RECORD                     a line of docs/TEXT.md, times in minutes: its bytes are ready, after those that were
+//   RECORD                     a line of docs/TEXT.md, times in minutes: its bytes are ready, after those that were; at most 2,048 in all
 //   NAME: CASE                 prints name and outcome; ledger, map and ready bytes stay as they were
 //   NAME:= CASE                the same, and ledger and map are those after it
 // A case's BYTES are a RECORD, or `first SIZE | AT BYTE | AT BYTE | AT BYTE`: so many of the ready bytes, with up to three of them changed. A CASE:
@@ -201,19 +201,11 @@ fn with_row(l: Ledger, v: [u64; 12]) -> Ledger {
     next
 }
 
-// The bench with a ledger lent, with a row set, with a map of another size, and with no bytes.
-fn with_ledger(b: Bench, v: [u64; 12]) -> Bench {
+// The bench with another ledger and map, with an all-zero map of so many bytes, and with no bytes.
+fn with_both(b: Bench, l: Ledger, map: [u8; 8193]) -> Bench {
     let mut next = b;
-    let l = ledger_of(v);
     next.ledger = l;
-    next
-}
-
-fn with_row_set(b: Bench, v: [u64; 12]) -> Bench {
-    let mut next = b;
-    let l = b.ledger;
-    let set = with_row(l, v);
-    next.ledger = set;
+    next.map = map;
     next
 }
 
@@ -327,17 +319,14 @@ fn print_taken(letter: u8, answer: u8, l: Ledger, map: &[u8]) {
 
 // The bench after a case's bytes were taken as one record.
 fn taken(b: Bench, letter: u8, what: &[u8]) -> Bench {
-    let mut next = b;
     let mut bytes = b.bytes;
     let held = put_bytes(&mut bytes, what);
     let mut map = b.map;
     let l = b.ledger;
     let t = l.take(sized(&mut map, b.size), wire::part(&bytes, 0, held));
-    let after = t.ledger;
-    print_taken(letter, t.answer, after, &map);
-    next.ledger = after;
-    next.map = map;
-    next
+    let next = t.ledger;
+    print_taken(letter, t.answer, next, &map);
+    with_both(b, next, map)
 }
 
 fn print_read(r: Read) {
@@ -351,17 +340,14 @@ fn print_read(r: Read) {
 
 // The bench after a case's bytes were read as a book.
 fn read(b: Bench, what: &[u8]) -> Bench {
-    let mut next = b;
     let mut bytes = b.bytes;
     let held = put_bytes(&mut bytes, what);
     let mut map = b.map;
     let l = b.ledger;
     let r = book::take_book(l, sized(&mut map, b.size), wire::part(&bytes, 0, held));
-    let after = r.ledger;
+    let next = r.ledger;
     print_read(r);
-    next.ledger = after;
-    next.map = map;
-    next
+    with_both(b, next, map)
 }
 
 fn print_asked(a: Asked) {
@@ -447,9 +433,11 @@ fn run_case(b: Bench, line: &[u8], colon: usize) -> Bench {
 fn lent(b: Bench, line: &[u8]) -> Bench {
     let n = numbers_in(line);
     let v = n.values;
+    let l = b.ledger;
+    let map = b.map;
     match wire::byte_at(line, 0) {
-        b'l' => with_ledger(b, v),
-        b'r' => with_row_set(b, v),
+        b'l' => with_both(b, ledger_of(v), map),
+        b'r' => with_both(b, with_row(l, v), map),
         b'm' => with_map(b, v[0]),
         b'b' => with_no_bytes(b),
         _ => {
