@@ -19,7 +19,8 @@
 //   count BYTES                a reader of them, asked on: how many records it gave, the offset where it was left, and its last answer
 //   events                     the ledger's events
 //   row TYPE                   customers and half minutes of a type on NN, VN, VVN
-// All but a RECORD are told by their first letter, and numbers are found whatever stands between them. What is no line or case is printed as such.
+// All but a RECORD are told by their first letter, and numbers are found whatever stands between them. What begins as no line or case does is printed
+// as such.
 use annex::Customers;
 use annex::HalfMinutes;
 use book::Read;

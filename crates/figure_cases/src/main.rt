@@ -20,7 +20,7 @@
 //                              a dead rest (1) or not (0), with an all-zero map of so many bytes: the answer, accepted events, refused records, bytes
 //                              held, and whether the rest is dead. The buffer stays as the call leaves it
 //     end REFUSED HELD DEAD    the end of such a feed: the answer, refused records, and whether a length was broken
-// Numbers are found whatever stands between them. What is no line or case is printed as such.
+// Words are told by their first letters, and numbers are found whatever stands between them. What begins as no line or case does is printed as such.
 use annex::Customers;
 use annex::HalfMinutes;
 use book::Read;
