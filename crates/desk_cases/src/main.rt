@@ -3,11 +3,11 @@
 // What is lent to the desk:
 //   sheet YEAR | NN VN VVN      a ledger that has taken this sheet, an all-zero map, and a desk of 32 free slots
 //   empty                       the same without a sheet
-//   ledger EVENTS SHORT         the ledger has so many events and short events
-//   map BYTES                   the map has so many bytes, at most 8193
+//   lent EVENTS SHORT | BYTES SLOTS     the ledger has so many events and short events, the map so many bytes (at most 8193), the desk so many slots (at most 33)
 //   used AT VALUE               this byte of the map has this value
-//   desk SLOTS                  the desk has so many slots, at most 33
 //   slot AT | NUMBER TYPE VOLTAGE CAUSE | T0 LAST STEPS | largest counts NN VN VVN | half minutes NN VN VVN
+//                               this slot of the desk; and then a step of number 9, ordinal 1, at time 0, nobody off, whose answer tells whether the desk is
+//                               sound: it is 8 where 9 is not open, and 1 where the desk is not sound
 // A message to the desk:
 //   open NUMBER TYPE VOLTAGE CAUSE | T0
 //   step NUMBER ORDINAL | TIME | NN VN VVN
@@ -22,8 +22,7 @@
 //   customers TYPE, halves TYPE     those of NN alone
 //   byte AT                     a byte of the map
 //
-// Before a line may stand a name: then the name and the answer are printed, or what is looked at. A slot's answer is that to a step of number 9, ordinal
-// 1, at time 0, nobody off: 8 at a sound desk where 9 is not open.
+// Before a line may stand a name: then the name and the answer are printed, or what is looked at.
 //   NAME: LINE                  a trial: afterwards all is as it was
 //   NAME:= LINE                 what the line does stays done, as without a name
 //   NAME:+ LINE                 the same, and the printed line goes on with the next one's
@@ -229,21 +228,14 @@ fn taken(before: Bench, bytes: &[u8]) -> Bench {
     b
 }
 
-// The ledger with so many events and short events.
-fn with_events(before: Bench, v: [u64; 16]) -> Bench {
+fn with_sizes(before: Bench, v: [u64; 16]) -> Bench {
     let mut b = before;
     let mut l = b.ledger;
     l.events = (v[1] % 65536) as u16;
     l.short = (v[2] % 65536) as u16;
     b.ledger = l;
-    b
-}
-
-// So many bytes of the map and slots of the desk.
-fn with_sizes(before: Bench, bytes: u64, desk: u64) -> Bench {
-    let mut b = before;
-    b.bytes = bytes;
-    b.desk = desk;
+    b.bytes = v[3];
+    b.desk = v[4];
     b
 }
 
@@ -329,6 +321,14 @@ fn put_close(out: &mut [u8], v: [u64; 16]) -> usize {
     pen::put(out, steps_at, byte(v[2]))
 }
 
+// A step of number 9, ordinal 1.
+fn put_ninth(out: &mut [u8]) -> usize {
+    let mut v = [0u64; 16];
+    v[1] = 9;
+    v[2] = 1;
+    put_step(out, v)
+}
+
 // A line of docs/TEXT.md.
 fn put_record(out: &mut [u8], line: &[u8]) -> usize {
     let parsed = text_parse::parse(line, 0);
@@ -343,6 +343,7 @@ fn put_line(out: &mut [u8], line: &[u8], word: u16, v: [u64; 16]) -> usize {
         OPEN => put_open(out, v),
         STEP => put_step(out, v),
         CLOSE => put_close(out, v),
+        SLOT => put_ninth(out),
         _ => 0,
     }
 }
@@ -382,37 +383,30 @@ fn print_row(l: Ledger, typ: u64) {
     three(c[0].halves.0, c[1].halves.0, c[2].halves.0);
 }
 
-fn print_customers(l: Ledger, typ: u64) {
+// One of the two, for NN alone.
+fn print_cell(c: Cell, halves: bool) {
+    if halves {
+        number(c.halves.0);
+    } else {
+        number(c.customers.0);
+    }
+}
+
+fn print_first(l: Ledger, typ: u64, halves: bool) {
     let c = cells_of(l, typ);
-    number(c[0].customers.0);
+    print_cell(c[0], halves);
 }
 
-fn print_halves(l: Ledger, typ: u64) {
-    let c = cells_of(l, typ);
-    number(c[0].halves.0);
-}
-
-fn print_look(b: Bench, at: u64) {
-    let slots = b.slots;
-    let i = (at % 33) as usize;
-    print_slot(slots[i]);
-}
-
-fn print_byte(b: Bench, at: u64) {
-    let map = b.map;
-    let i = (at % 8193) as usize;
-    number(map[i] as u64);
-}
-
-// The answer to a step of number 9.
-fn print_ninth(b: Bench) {
-    let mut out = [0u8; 23];
-    let mut v = [0u64; 16];
-    v[1] = 9;
-    v[2] = 1;
-    put_step(&mut out, v);
-    let after = served(b, &out);
-    number(after.answer as u64);
+// The slot and the map's byte at a place, the ledger and the answer: what a line with a name prints is one of them.
+fn print(word: u16, at: u64, slot: Slot, used: u8, l: Ledger, answer: u8) {
+    match word {
+        LOOK => print_slot(slot),
+        BYTE => number(used as u64),
+        ROW => print_row(l, at),
+        CUSTOMERS => print_first(l, at, false),
+        HALVES => print_first(l, at, true),
+        _ => number(answer as u64),
+    }
 }
 
 // ---- lines, told apart by the first two letters of their word
@@ -421,13 +415,9 @@ const SHEET: u16 = 26739;
 
 const EMPTY: u16 = 28005;
 
-const LEDGER: u16 = 25964;
-
-const MAP: u16 = 24941;
+const LENT: u16 = 25964;
 
 const USED: u16 = 29557;
-
-const DESK: u16 = 25956;
 
 const SLOT: u16 = 27763;
 
@@ -467,8 +457,9 @@ fn word_of(line: &[u8]) -> u16 {
 fn items_of(word: u16) -> usize {
     match word {
         EMPTY | NOTHING => 0,
-        MAP | DESK | LOOK | ROW | CUSTOMERS | HALVES | BYTE => 1,
-        LEDGER | USED | CLOSE => 2,
+        LOOK | ROW | CUSTOMERS | HALVES | BYTE => 1,
+        USED | CLOSE => 2,
+        LENT => 4,
         OPEN => 5,
         STEP => 6,
         SLOT => 14,
@@ -484,32 +475,18 @@ fn is_right(line: &[u8], word: u16, count: usize) -> bool {
     }
 }
 
-fn tell(line: &[u8], right: bool) {
-    if !right {
-        word(b"no such line: ");
-        word(line);
-        word(b"\n");
+// The numbers of a line. A line that is none of the text's is printed.
+fn values_of(line: &[u8]) -> [u64; 16] {
+    let n = numbers_in(line);
+    if !is_right(line, word_of(line), n.count) {
+        word(b" no such line: ");
+        heading(line);
     }
-}
-
-// What a line does that is no message and no record.
-fn set_up(b: Bench, word: u16, v: [u64; 16]) -> Bench {
-    match word {
-        LEDGER => with_events(b, v),
-        MAP => with_sizes(b, v[1], b.desk),
-        DESK => with_sizes(b, b.bytes, v[1]),
-        USED => with_used(b, v),
-        SLOT => with_slot(b, v),
-        _ => b,
-    }
+    n.values
 }
 
 // What a line does.
-fn sent(b: Bench, line: &[u8]) -> Bench {
-    let word = word_of(line);
-    let n = numbers_in(line);
-    let v = n.values;
-    tell(line, is_right(line, word, n.count));
+fn sent(b: Bench, line: &[u8], word: u16, v: [u64; 16]) -> Bench {
     let mut out = io::buffer();
     let size = put_line(&mut out, line, word, v);
     let bytes = wire::part(&out, 0, size);
@@ -517,77 +494,48 @@ fn sent(b: Bench, line: &[u8]) -> Bench {
         SHEET | EMPTY => taken(empty(), bytes),
         STEPPED => taken(b, bytes),
         OPEN | STEP | CLOSE | HEX | NOTHING => served(b, bytes),
-        _ => set_up(b, word, v),
+        SLOT => served(with_slot(b, v), bytes),
+        LENT => with_sizes(b, v),
+        USED => with_used(b, v),
+        _ => b,
     }
 }
 
-// What is looked at in the ledger, or the answer.
-fn print_ledger(l: Ledger, answer: u8, word: u16, typ: u64) {
-    match word {
-        ROW => print_row(l, typ),
-        CUSTOMERS => print_customers(l, typ),
-        HALVES => print_halves(l, typ),
-        _ => number(answer as u64),
-    }
+fn sent_line(b: Bench, line: &[u8]) -> Bench {
+    let v = values_of(line);
+    sent(b, line, word_of(line), v)
 }
 
-// What a line with a name prints.
-fn print(b: Bench, word: u16, at: u64) {
+fn print_of(b: Bench, word: u16, at: u64) {
+    let slots = b.slots;
+    let map = b.map;
     let l = b.ledger;
-    match word {
-        SLOT => print_ninth(b),
-        LOOK => print_look(b, at),
-        BYTE => print_byte(b, at),
-        _ => print_ledger(l, b.answer, word, at),
-    }
+    let i = (at % 33) as usize;
+    let k = (at % 8193) as usize;
+    print(word, at, slots[i], map[k], l, b.answer);
 }
 
-fn print_line(b: Bench, line: &[u8]) {
-    let n = numbers_in(line);
-    let v = n.values;
-    print(b, word_of(line), v[1]);
-}
-
-fn print_end(mode: u8) {
-    if mode != b'+' {
+fn print_end(sort: u8) {
+    if sort != b'+' {
         word(b"\n");
     }
 }
 
-// What a trial leaves, and any other line.
-fn kept(mode: u8, before: Bench, after: Bench) -> Bench {
-    if mode == b' ' { before } else { after }
+fn named(b: Bench, line: &[u8], sort: u8) -> Bench {
+    let word = word_of(line);
+    let v = values_of(line);
+    let next = sent(b, line, word, v);
+    print_of(next, word, v[1]);
+    print_end(sort);
+    next
 }
 
-// A line after its name, from the colon on.
-fn body_of(rest: &[u8], mode: u8) -> &[u8] {
-    if mode == b' ' {
-        return wire::part(rest, 2, rest.len());
-    }
-    wire::part(rest, 3, rest.len())
-}
-
-fn named(b: Bench, rest: &[u8]) -> Bench {
-    let mode = wire::byte_at(rest, 1);
-    let line = body_of(rest, mode);
-    let next = sent(b, line);
-    print_line(next, line);
-    print_end(mode);
-    kept(mode, b, next)
-}
-
-fn with_name(b: Bench, line: &[u8], colon: usize) -> Bench {
-    word(wire::part(line, 0, colon));
-    named(b, wire::part(line, colon, line.len()))
-}
-
-fn headed(b: Bench, line: &[u8]) -> Bench {
-    word(line);
-    word(b"\n");
+fn tried(b: Bench, line: &[u8]) -> Bench {
+    named(b, line, b' ');
     b
 }
 
-// What a line begins with where it is passed over or a heading, or a colon where a name stands in it.
+// What a line is: the byte after the colon where it has a name, its first byte where it is a heading or passed over, and 0 for any other.
 fn sort_of(line: &[u8], colon: usize) -> u8 {
     let first = wire::byte_at(line, 0);
     if line.len() == 0 {
@@ -596,17 +544,40 @@ fn sort_of(line: &[u8], colon: usize) -> u8 {
     if (first == b'#') | (first == b'-') {
         return first;
     }
-    wire::byte_at(line, colon)
+    wire::byte_at(wire::part(line, colon, line.len()), 1)
+}
+
+fn print_name(line: &[u8], sort: u8, colon: usize) {
+    match sort {
+        b'-' => heading(line),
+        b' ' | b'=' | b'+' => word(wire::part(line, 0, colon)),
+        _ => word(b""),
+    }
+}
+
+fn heading(line: &[u8]) {
+    word(line);
+    word(b"\n");
+}
+
+// A line without its name, from the colon on.
+fn body_of(rest: &[u8], sort: u8) -> &[u8] {
+    match sort {
+        b' ' => wire::part(rest, 2, rest.len()),
+        _ => wire::part(rest, 3, rest.len()),
+    }
 }
 
 fn take_line(b: Bench, line: &[u8]) -> Bench {
     let colon = place_of(line, b':');
     let sort = sort_of(line, colon);
+    let rest = wire::part(line, colon, line.len());
+    print_name(line, sort, colon);
     match sort {
-        b'#' => b,
-        b'-' => headed(b, line),
-        b':' => with_name(b, line, colon),
-        _ => sent(b, line),
+        b'#' | b'-' => b,
+        b' ' => tried(b, body_of(rest, sort)),
+        b'=' | b'+' => named(b, body_of(rest, sort), sort),
+        _ => sent_line(b, line),
     }
 }
 
