@@ -291,29 +291,21 @@ fn put_frame(out: &mut [u8], size: u32, kind: u32, n: u64) -> usize {
     pen::put_le2(out, number_at, low(n))
 }
 
-fn put_codes(out: &mut [u8], at: usize, v: [u64; 16]) -> usize {
-    let voltage_at = pen::put(out, at, byte(v[2]));
-    let cause_at = pen::put(out, voltage_at, byte(v[3]));
-    pen::put(out, cause_at, byte(v[4]))
-}
-
-fn put_counts(out: &mut [u8], at: usize, v: [u64; 16]) -> usize {
-    let vn_at = pen::put_le4(out, at, low(v[4]));
-    let vvn_at = pen::put_le4(out, vn_at, low(v[5]));
-    pen::put_le4(out, vvn_at, low(v[6]))
-}
-
 fn put_open(out: &mut [u8], v: [u64; 16]) -> usize {
-    let codes_at = put_frame(out, 13, 16, v[1]);
-    let t0_at = put_codes(out, codes_at, v);
+    let type_at = put_frame(out, 13, 16, v[1]);
+    let voltage_at = pen::put(out, type_at, byte(v[2]));
+    let cause_at = pen::put(out, voltage_at, byte(v[3]));
+    let t0_at = pen::put(out, cause_at, byte(v[4]));
     pen::put_le4(out, t0_at, low(v[5]))
 }
 
 fn put_step(out: &mut [u8], v: [u64; 16]) -> usize {
     let ordinal_at = put_frame(out, 23, 17, v[1]);
     let time_at = pen::put(out, ordinal_at, byte(v[2]));
-    let counts_at = pen::put_le4(out, time_at, low(v[3]));
-    put_counts(out, counts_at, v)
+    let nn_at = pen::put_le4(out, time_at, low(v[3]));
+    let vn_at = pen::put_le4(out, nn_at, low(v[4]));
+    let vvn_at = pen::put_le4(out, vn_at, low(v[5]));
+    pen::put_le4(out, vvn_at, low(v[6]))
 }
 
 fn put_close(out: &mut [u8], v: [u64; 16]) -> usize {
@@ -321,13 +313,8 @@ fn put_close(out: &mut [u8], v: [u64; 16]) -> usize {
     pen::put(out, steps_at, byte(v[2]))
 }
 
-// A step of number 9, ordinal 1.
-fn put_ninth(out: &mut [u8]) -> usize {
-    let mut v = [0u64; 16];
-    v[1] = 9;
-    v[2] = 1;
-    put_step(out, v)
-}
+// The numbers of a step of number 9, ordinal 1.
+const NINTH: [u64; 16] = [0, 9, 1, 0, 0, 0, 0, 0, 0, 0, 0, 0, 0, 0, 0, 0];
 
 // A line of docs/TEXT.md.
 fn put_record(out: &mut [u8], line: &[u8]) -> usize {
@@ -343,7 +330,7 @@ fn put_line(out: &mut [u8], line: &[u8], word: u16, v: [u64; 16]) -> usize {
         OPEN => put_open(out, v),
         STEP => put_step(out, v),
         CLOSE => put_close(out, v),
-        SLOT => put_ninth(out),
+        SLOT => put_step(out, NINTH),
         _ => 0,
     }
 }
@@ -383,18 +370,14 @@ fn print_row(l: Ledger, typ: u64) {
     three(c[0].halves.0, c[1].halves.0, c[2].halves.0);
 }
 
-// One of the two, for NN alone.
-fn print_cell(c: Cell, halves: bool) {
-    if halves {
-        number(c.halves.0);
-    } else {
-        number(c.customers.0);
-    }
-}
-
+// Customers or half minutes of NN alone.
 fn print_first(l: Ledger, typ: u64, halves: bool) {
     let c = cells_of(l, typ);
-    print_cell(c[0], halves);
+    if halves {
+        number(c[0].halves.0);
+    } else {
+        number(c[0].customers.0);
+    }
 }
 
 // The slot and the map's byte at a place, the ledger and the answer: what a line with a name prints is one of them.
@@ -453,25 +436,18 @@ fn word_of(line: &[u8]) -> u16 {
     letters
 }
 
-// How many numbers a line has; as many as none has where the word is none of the text's.
-fn items_of(word: u16) -> usize {
-    match word {
-        EMPTY | NOTHING => 0,
-        LOOK | ROW | CUSTOMERS | HALVES | BYTE => 1,
-        USED | CLOSE => 2,
-        LENT => 4,
-        OPEN => 5,
-        STEP => 6,
-        SLOT => 14,
-        _ => 16,
-    }
-}
-
-// Whether a line is one of the text's.
+// Whether a line is one of the text's, with as many numbers as it has to have.
 fn is_right(line: &[u8], word: u16, count: usize) -> bool {
     match word {
         SHEET | STEPPED | HEX => text_parse::parse(line, 0).answer == 0,
-        _ => count == items_of(word),
+        EMPTY | NOTHING => count == 0,
+        LOOK | ROW | CUSTOMERS | HALVES | BYTE => count == 1,
+        USED | CLOSE => count == 2,
+        LENT => count == 4,
+        OPEN => count == 5,
+        STEP => count == 6,
+        SLOT => count == 14,
+        _ => false,
     }
 }
 
@@ -501,11 +477,6 @@ fn sent(b: Bench, line: &[u8], word: u16, v: [u64; 16]) -> Bench {
     }
 }
 
-fn sent_line(b: Bench, line: &[u8]) -> Bench {
-    let v = values_of(line);
-    sent(b, line, word_of(line), v)
-}
-
 fn print_of(b: Bench, word: u16, at: u64) {
     let slots = b.slots;
     let map = b.map;
@@ -528,11 +499,6 @@ fn named(b: Bench, line: &[u8], sort: u8) -> Bench {
     print_of(next, word, v[1]);
     print_end(sort);
     next
-}
-
-fn tried(b: Bench, line: &[u8]) -> Bench {
-    named(b, line, b' ');
-    b
 }
 
 // What a line is: the byte after the colon where it has a name, its first byte where it is a heading or passed over, and 0 for any other.
@@ -575,9 +541,12 @@ fn take_line(b: Bench, line: &[u8]) -> Bench {
     print_name(line, sort, colon);
     match sort {
         b'#' | b'-' => b,
-        b' ' => tried(b, body_of(rest, sort)),
+        b' ' => {
+            named(b, body_of(rest, sort), sort);
+            b
+        }
         b'=' | b'+' => named(b, body_of(rest, sort), sort),
-        _ => sent_line(b, line),
+        _ => sent(b, line, word_of(line), values_of(line)),
     }
 }
 

@@ -357,33 +357,28 @@ const HOURS: u16 = 28520;
 
 const PIECE: u16 = 26992;
 
-// How many numbers a line has; as many as none has where the word is none of the text's.
-fn items_of(word: u16) -> usize {
-    match word {
-        FILE | NOTHING => 0,
-        TABLE | UNSEEN | BEGIN | KNOWN | RATE | MEAN => 1,
-        OFTEN | HOURS | PIECE => 2,
-        OUTAGE | STOCK => 3,
-        ROW => 5,
-        _ => 16,
-    }
-}
-
-// Whether a line is one of the text's.
+// Whether a line is one of the text's, with as many numbers as it has to have.
 fn is_right(line: &[u8], word: u16, count: usize) -> bool {
     match word {
         SHEET | HEX => text_parse::parse(line, 0).answer == 0,
         BOOK => text_parse::parse(wire::part(line, 5, line.len()), 0).answer == 0,
-        _ => count == items_of(word),
+        FILE | NOTHING => count == 0,
+        TABLE | UNSEEN | BEGIN | KNOWN | RATE | MEAN => count == 1,
+        OFTEN | HOURS | PIECE => count == 2,
+        OUTAGE | STOCK => count == 3,
+        ROW => count == 5,
+        _ => false,
     }
 }
 
-fn tell(line: &[u8], right: bool) {
-    if !right {
-        word(b"no such line: ");
-        word(line);
-        word(b"\n");
+// The numbers of a line. A line that is none of the text's is printed.
+fn values_of(line: &[u8]) -> [u64; 16] {
+    let n = numbers_in(line);
+    if !is_right(line, wire::u16_at(line, 0), n.count) {
+        word(b" no such line: ");
+        heading(line);
     }
+    n.values
 }
 
 // What a line does.
@@ -403,14 +398,6 @@ fn sent(f: Filed, line: &[u8], word: u16, v: [u64; 16]) -> Filed {
     }
 }
 
-fn sent_line(f: Filed, line: &[u8]) -> Filed {
-    let word = wire::u16_at(line, 0);
-    let n = numbers_in(line);
-    let v = n.values;
-    tell(line, is_right(line, word, n.count));
-    sent(f, line, word, v)
-}
-
 // What a line with a name prints.
 fn print(f: Filed, word: u16, v: [u64; 16]) {
     let t = f.table;
@@ -424,46 +411,16 @@ fn print(f: Filed, word: u16, v: [u64; 16]) {
     }
 }
 
-fn print_line(f: Filed, line: &[u8]) {
-    let n = numbers_in(line);
-    let v = n.values;
-    print(f, wire::u16_at(line, 0), v);
+fn named(f: Filed, line: &[u8]) -> Filed {
+    let letters = wire::u16_at(line, 0);
+    let v = values_of(line);
+    let next = sent(f, line, letters, v);
+    print(next, letters, v);
     word(b"\n");
+    next
 }
 
-// What a trial leaves, and any other line.
-fn kept(mode: u8, before: Filed, after: Filed) -> Filed {
-    if mode == b' ' { before } else { after }
-}
-
-// A line after its name, from the colon on.
-fn body_of(rest: &[u8], mode: u8) -> &[u8] {
-    if mode == b' ' {
-        return wire::part(rest, 2, rest.len());
-    }
-    wire::part(rest, 3, rest.len())
-}
-
-fn named(f: Filed, rest: &[u8]) -> Filed {
-    let mode = wire::byte_at(rest, 1);
-    let line = body_of(rest, mode);
-    let next = sent_line(f, line);
-    print_line(next, line);
-    kept(mode, f, next)
-}
-
-fn with_name(f: Filed, line: &[u8], colon: usize) -> Filed {
-    word(wire::part(line, 0, colon));
-    named(f, wire::part(line, colon, line.len()))
-}
-
-fn headed(f: Filed, line: &[u8]) -> Filed {
-    word(line);
-    word(b"\n");
-    f
-}
-
-// What a line begins with where it is passed over or a heading, or a colon where a name stands in it.
+// What a line is: the byte after the colon where it has a name, its first byte where it is a heading or passed over, and 0 for any other.
 fn sort_of(line: &[u8], colon: usize) -> u8 {
     let first = wire::byte_at(line, 0);
     if line.len() == 0 {
@@ -472,17 +429,43 @@ fn sort_of(line: &[u8], colon: usize) -> u8 {
     if (first == b'#') | (first == b'-') {
         return first;
     }
-    wire::byte_at(line, colon)
+    wire::byte_at(wire::part(line, colon, line.len()), 1)
+}
+
+fn print_name(line: &[u8], sort: u8, colon: usize) {
+    match sort {
+        b'-' => heading(line),
+        b' ' | b'=' => word(wire::part(line, 0, colon)),
+        _ => word(b""),
+    }
+}
+
+fn heading(line: &[u8]) {
+    word(line);
+    word(b"\n");
+}
+
+// A line without its name, from the colon on.
+fn body_of(rest: &[u8], sort: u8) -> &[u8] {
+    match sort {
+        b' ' => wire::part(rest, 2, rest.len()),
+        _ => wire::part(rest, 3, rest.len()),
+    }
 }
 
 fn take_line(f: Filed, line: &[u8]) -> Filed {
     let colon = last_of(line, b':');
     let sort = sort_of(line, colon);
+    let rest = wire::part(line, colon, line.len());
+    print_name(line, sort, colon);
     match sort {
-        b'#' => f,
-        b'-' => headed(f, line),
-        b':' => with_name(f, line, colon),
-        _ => sent_line(f, line),
+        b'#' | b'-' => f,
+        b' ' => {
+            named(f, body_of(rest, sort));
+            f
+        }
+        b'=' => named(f, body_of(rest, sort)),
+        _ => sent(f, line, wire::u16_at(line, 0), values_of(line)),
     }
 }
 
