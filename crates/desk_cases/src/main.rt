@@ -182,6 +182,7 @@ struct Bench {
     answer: u8,
 }
 
+// Nothing taken, nothing marked, nothing open.
 fn empty() -> Bench {
     Bench {
         slots: [Slot::free(); 33],
@@ -193,6 +194,7 @@ fn empty() -> Bench {
     }
 }
 
+// One message to the desk.
 fn served(before: Bench, bytes: &[u8]) -> Bench {
     let mut b = before;
     let slots = b.slots;
@@ -228,6 +230,7 @@ fn taken(before: Bench, bytes: &[u8]) -> Bench {
     b
 }
 
+// Events and short events of the ledger, bytes of the map and slots of the desk.
 fn with_sizes(before: Bench, v: [u64; 16]) -> Bench {
     let mut b = before;
     let mut l = b.ledger;
@@ -239,6 +242,7 @@ fn with_sizes(before: Bench, v: [u64; 16]) -> Bench {
     b
 }
 
+// A byte of the map.
 fn with_used(before: Bench, v: [u64; 16]) -> Bench {
     let mut b = before;
     let at = (v[1] % 8193) as usize;
@@ -394,38 +398,38 @@ fn print(word: u16, at: u64, slot: Slot, used: u8, l: Ledger, answer: u8) {
 
 // ---- lines, told apart by the first two letters of their word
 
-const SHEET: u16 = 26739;
+const SHEET: u16 = b's' as u16 + b'h' as u16 * 256;
 
-const EMPTY: u16 = 28005;
+const EMPTY: u16 = b'e' as u16 + b'm' as u16 * 256;
 
-const LENT: u16 = 25964;
+const LENT: u16 = b'l' as u16 + b'e' as u16 * 256;
 
-const USED: u16 = 29557;
+const USED: u16 = b'u' as u16 + b's' as u16 * 256;
 
-const SLOT: u16 = 27763;
+const SLOT: u16 = b's' as u16 + b'l' as u16 * 256;
 
-const OPEN: u16 = 28783;
+const OPEN: u16 = b'o' as u16 + b'p' as u16 * 256;
 
-const STEP: u16 = 29811;
+const STEP: u16 = b's' as u16 + b't' as u16 * 256;
 
 // Of `stepped` the third and fourth letters, since `step` begins with the same two.
-const STEPPED: u16 = 28773;
+const STEPPED: u16 = b'e' as u16 + b'p' as u16 * 256;
 
-const CLOSE: u16 = 27747;
+const CLOSE: u16 = b'c' as u16 + b'l' as u16 * 256;
 
-const HEX: u16 = 25960;
+const HEX: u16 = b'h' as u16 + b'e' as u16 * 256;
 
-const NOTHING: u16 = 28526;
+const NOTHING: u16 = b'n' as u16 + b'o' as u16 * 256;
 
-const LOOK: u16 = 28524;
+const LOOK: u16 = b'l' as u16 + b'o' as u16 * 256;
 
-const ROW: u16 = 28530;
+const ROW: u16 = b'r' as u16 + b'o' as u16 * 256;
 
-const CUSTOMERS: u16 = 30051;
+const CUSTOMERS: u16 = b'c' as u16 + b'u' as u16 * 256;
 
-const HALVES: u16 = 24936;
+const HALVES: u16 = b'h' as u16 + b'a' as u16 * 256;
 
-const BYTE: u16 = 31074;
+const BYTE: u16 = b'b' as u16 + b'y' as u16 * 256;
 
 // The word of a line, by its first letters.
 fn word_of(line: &[u8]) -> u16 {
@@ -486,12 +490,14 @@ fn print_of(b: Bench, word: u16, at: u64) {
     print(word, at, slots[i], map[k], l, b.answer);
 }
 
+// The end of a printed line, where it does not go on.
 fn print_end(sort: u8) {
     if sort != b'+' {
         word(b"\n");
     }
 }
 
+// A line with a name.
 fn named(b: Bench, line: &[u8], sort: u8) -> Bench {
     let word = word_of(line);
     let v = values_of(line);

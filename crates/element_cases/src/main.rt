@@ -323,39 +323,39 @@ fn print_figure(t: Table, word: u16, v: [u64; 16]) {
 
 // ---- lines, told apart by the first two letters of their word
 
-const TABLE: u16 = 24948;
+const TABLE: u16 = b't' as u16 + b'a' as u16 * 256;
 
-const UNSEEN: u16 = 28277;
+const UNSEEN: u16 = b'u' as u16 + b'n' as u16 * 256;
 
-const ROW: u16 = 28530;
+const ROW: u16 = b'r' as u16 + b'o' as u16 * 256;
 
-const BEGIN: u16 = 25954;
+const BEGIN: u16 = b'b' as u16 + b'e' as u16 * 256;
 
-const FILE: u16 = 26982;
+const FILE: u16 = b'f' as u16 + b'i' as u16 * 256;
 
-const SHEET: u16 = 26739;
+const SHEET: u16 = b's' as u16 + b'h' as u16 * 256;
 
-const OUTAGE: u16 = 30063;
+const OUTAGE: u16 = b'o' as u16 + b'u' as u16 * 256;
 
-const STOCK: u16 = 29811;
+const STOCK: u16 = b's' as u16 + b't' as u16 * 256;
 
-const HEX: u16 = 25960;
+const HEX: u16 = b'h' as u16 + b'e' as u16 * 256;
 
-const NOTHING: u16 = 28526;
+const NOTHING: u16 = b'n' as u16 + b'o' as u16 * 256;
 
-const BOOK: u16 = 28514;
+const BOOK: u16 = b'b' as u16 + b'o' as u16 * 256;
 
-const KNOWN: u16 = 28267;
+const KNOWN: u16 = b'k' as u16 + b'n' as u16 * 256;
 
-const RATE: u16 = 24946;
+const RATE: u16 = b'r' as u16 + b'a' as u16 * 256;
 
-const MEAN: u16 = 25965;
+const MEAN: u16 = b'm' as u16 + b'e' as u16 * 256;
 
-const OFTEN: u16 = 26223;
+const OFTEN: u16 = b'o' as u16 + b'f' as u16 * 256;
 
-const HOURS: u16 = 28520;
+const HOURS: u16 = b'h' as u16 + b'o' as u16 * 256;
 
-const PIECE: u16 = 26992;
+const PIECE: u16 = b'p' as u16 + b'i' as u16 * 256;
 
 // Whether a line is one of the text's, with as many numbers as it has to have.
 fn is_right(line: &[u8], word: u16, count: usize) -> bool {
@@ -411,6 +411,7 @@ fn print(f: Filed, word: u16, v: [u64; 16]) {
     }
 }
 
+// A line with a name.
 fn named(f: Filed, line: &[u8]) -> Filed {
     let letters = wire::u16_at(line, 0);
     let v = values_of(line);
