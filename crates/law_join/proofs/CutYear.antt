@@ -22,12 +22,12 @@ use Rattle.ledger.specs.Sound.{soundLedger}
 use Rattle.ledger.specs.Take.{answerOf, ledgerAfter, mapAfter}
 use Rattle.book.specs.Book.{takeRecord, afterBook}
 use Rattle.law_sums.specs.Accepted.{zeroMap, Accepted}
-use Rattle.law_sums.specs.Theorem.{bookLedger}
+use Rattle.law_sums.specs.Theorem.{bookLedger, bookMap}
 use Rattle.index.specs.Sums.{levelSum}
 use Rattle.worked.specs.Worked.{year}
 use Rattle.law_order.specs.Turned.{first}
 use Rattle.law_order.proofs.ShapeLaws.{no-bytes-accepted}
-use Rattle.law_join.specs.Join.{SharesNone, SameSheet, joinedBook, bookMap, JoinAdds}
+use Rattle.law_join.specs.Join.{SharesNone, SameSheet, joinedBook, JoinAdds}
 use Rattle.law_join.specs.Parts.{with1, with23, with12, with3, fewer, figures}
 use Rattle.law_join.proofs.Joining.{join-adds}
 

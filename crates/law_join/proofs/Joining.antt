@@ -23,13 +23,13 @@ use Rattle.verdict.specs.Verdict.{eventVerdict}
 use Rattle.ledger.specs.declared.Ledger.{Ledger}
 use Rattle.ledger.specs.Ledger.{emptyLedger, heldIn, added}
 use Rattle.book.specs.Book.{BookState, starting, takeAll, afterBook}
-use Rattle.law_sums.specs.Accepted.{zeroMap, Accepted, shortOnes, sumOf}
-use Rattle.law_sums.specs.Theorem.{eventsOf, bookLedger, IsSum}
+use Rattle.law_sums.specs.Accepted.{zeroMap, Accepted, shortOnes, sumOf, numberIn, allMarked}
+use Rattle.law_sums.specs.Theorem.{eventsOf, sheetsOf, bookLedger, bookMap, IsSum}
 use Rattle.law_sums.proofs.AnnexTheorem.{accepted-book-adds}
-use Rattle.law_order.specs.Each.{Right, numberIn, Different, Unmarked, withEvent, withAll, allMarked, onlySheet, Told}
+use Rattle.law_order.specs.Each.{Right, Different, Unmarked, withEvent, withAll, onlySheet, Told}
 use Rattle.law_order.proofs.EachLaws.{right-number, right-not-sheet}
 use Rattle.law_order.proofs.ShapeLaws.{Shape, no-bytes, sheet-then, accepted-shape, accepted-told, told-taken, told-end, told-accepted, told-counted}
-use Rattle.law_join.specs.Join.{numbersIn, SharesNone, sheetsOf, SameSheet, joinedBook, bookMap, JoinAdds}
+use Rattle.law_join.specs.Join.{numbersIn, SharesNone, SameSheet, joinedBook, JoinAdds}
 use Rattle.law_join.proofs.DifferentLaws.{at-most, different-append, different-shares-none, none-listed}
 use Rattle.law_join.proofs.ByteLaws.{join-is, join-records, join-events, bytes-records}
 use Rattle.law_join.proofs.TotalLaws.{sums-append, short-append}

@@ -1,21 +1,20 @@
 -- Which numbers a map marks once events are taken: those it marked before, and the numbers of the events that it has a bit for. So two lists of events,
 -- one after the other, mark what either marks. Assumes nothing.
-use Prim.Native.Nat.{ℕ, zero, suc, _/_, _%_, _^_, _≤_}
+use Prim.Native.Nat.{ℕ, zero, suc, _≤_}
 use mathlib.Core.Path.{_≡_, refl, sym, ap, _∙_}
 use mathlib.Core.List.{List, [], _∷_, _++_}
-use mathlib.Core.Bool.{Bool, false, _&&_, _||_, not, or-false, or-true, or-assoc}
-use lib.ListN.{length, getD, replicate}
+use mathlib.Core.Bool.{Bool, _&&_, _||_, not, or-false, or-true, or-assoc}
+use lib.ListN.{length, replicate}
 use lib.Dec.{eqb, ltb}
-use native.Mathlib.Nat.{zero-div}
 use native.Mathlib.Omega.{arith}
 use borrow.Author.Tests.{eqb-true, eqb-false, ltb-true, ltb-false}
 use Rattle.base.specs.Lists.{any}
 use Rattle.base.proofs.TestLaws.{Tested, holds, fails, test}
 use Rattle.base.proofs.ListLaws.{any-append}
-use Rattle.used_numbers.specs.Marks.{bitOf, marked, markedWith}
+use Rattle.used_numbers.specs.Marks.{marked, markedWith}
 use Rattle.used_numbers.proofs.MarkLaws.{markedWith-zero, markedWith-same, markedWith-other, markedWith-past, markedWith-size}
-use Rattle.law_sums.specs.Accepted.{zeroMap}
-use Rattle.law_order.specs.Each.{numberIn, allMarked}
+use Rattle.law_sums.specs.Accepted.{zeroMap, numberIn, allMarked}
+use Rattle.law_sums.proofs.StateLaws.{zero-unmarked}
 
 -- marking the number n marks v
 abbrev hits : ℕ → ℕ → Bool
@@ -49,16 +48,7 @@ mark-all m v (s ∷ ss) size =
     ap (λ (t : Bool). t || rest) (mark-one m v (numberIn s) size) ∙
     or-assoc (marked m v) (hits v (numberIn s)) rest
 
--- the all-zero map marks nothing
-zeros : (n i : ℕ) → getD {A = ℕ} (replicate n 0) i 0 ≡ 0
-zeros zero i = refl
-zeros (suc n) zero = refl
-zeros (suc n) (suc i) = zeros n i
-
-zero-unmarked : (v : ℕ) → marked zeroMap v ≡ false
-unfolding marked
-zero-unmarked v = ap (λ (b : ℕ). bitOf b (v % 8)) (zeros 8192 (v / 8)) ∙ ap (λ (q : ℕ). eqb (q % 2) 1) (zero-div (2 ^ (v % 8)))
-
+-- from the all-zero map, which marks nothing
 zero-size : (n : ℕ) → length {A = ℕ} (replicate n 0) ≡ n
 zero-size zero = refl
 zero-size (suc n) = ap suc (zero-size n)

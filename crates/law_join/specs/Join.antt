@@ -2,32 +2,24 @@
 -- books under one year sheet that share no event number join into an accepted book whose totals, as `IsSum` has them, are the sums.
 use Prim.Native.Nat.{ℕ, _+_, _<_}
 use mathlib.Core.Path.{_≡_}
-use mathlib.Core.List.{List, _++_, map}
+use mathlib.Core.List.{List, _++_}
 use mathlib.Core.Bool.{false, _||_}
-use lib.Dec.{eqb}
-use Rattle.base.specs.Lists.{All, listed, keep}
-use Rattle.wire.specs.Frame.{kindOf}
+use Rattle.base.specs.Lists.{All, listed}
 use Rattle.wire.specs.Cut.{recordsOf, joined}
 use Rattle.codes.specs.Codes.{rows, levels}
 use Rattle.annex.specs.Figure.{Figure}
 use Rattle.used_numbers.specs.Marks.{marked}
-use Rattle.ledger.specs.Ledger.{emptyLedger, heldIn}
-use Rattle.book.specs.Book.{afterBook}
-use Rattle.law_sums.specs.Accepted.{zeroMap, Accepted}
-use Rattle.law_sums.specs.Theorem.{eventsOf, bookLedger, IsSum}
-use Rattle.law_order.specs.Each.{numberIn}
+use Rattle.ledger.specs.Ledger.{heldIn}
+use Rattle.law_sums.specs.Accepted.{Accepted, numbersOf}
+use Rattle.law_sums.specs.Theorem.{eventsOf, sheetsOf, bookLedger, bookMap, IsSum}
 
 -- the event numbers of a book's events
 abbrev pub numbersIn : List ℕ → List ℕ
-numbersIn book = map numberIn (eventsOf book)
+numbersIn book = numbersOf (eventsOf book)
 
 -- no event number of the one book stands in the other
 abbrev pub SharesNone : List ℕ → List ℕ → Type 0
 SharesNone book₁ book₂ = All (λ (v : ℕ). listed v (numbersIn book₁) ≡ false) (numbersIn book₂)
-
--- the sheet records of a book: an accepted book has one, its first record, and the book of no bytes has none
-abbrev pub sheetsOf : List ℕ → List (List ℕ)
-sheetsOf book = keep (λ (s : List ℕ). eqb (kindOf s) 1) (recordsOf book)
 
 -- one year sheet: the same record, or no record in either
 abbrev pub SameSheet : List ℕ → List ℕ → Type 0
@@ -36,10 +28,6 @@ SameSheet book₁ book₂ = sheetsOf book₁ ≡ sheetsOf book₂
 -- the first book, and after it the second book's events
 abbrev pub joinedBook : List ℕ → List ℕ → List ℕ
 joinedBook book₁ book₂ = book₁ ++ joined (eventsOf book₂)
-
--- the map after a book, taken from an empty ledger and an all-zero map
-abbrev pub bookMap : List ℕ → List ℕ
-bookMap book = afterBook emptyLedger zeroMap book .map
 
 pub record JoinAdds (book₁ book₂ : List ℕ) : Type 0 where
   pub accepted : Accepted (joinedBook book₁ book₂)

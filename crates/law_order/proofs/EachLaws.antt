@@ -39,10 +39,10 @@ use Rattle.ledger.proofs.TakeLaws.{answer-judged, accepted-verdict, accepted-ad
 use Rattle.ledger.proofs.SoundLaws.{sound-stays-sound}
 use Rattle.book.specs.Book.{BookState, takeRecord, takeAll}
 use Rattle.book.proofs.RunLaws.{sound-taken, refusedIn, answerIn, refused-counted}
-use Rattle.law_sums.specs.Accepted.{acceptedEvents, shortOnes, sumOf}
+use Rattle.law_sums.specs.Accepted.{acceptedEvents, shortOnes, sumOf, numberIn, withNumber, allMarked}
 use Rattle.law_sums.specs.Theorem.{Adds}
 use Rattle.law_sums.proofs.AnnexTheorem.{adds-exactly}
-use Rattle.law_order.specs.Each.{Right, numberIn, Apart, Unmarked, Each, eventAt, withEvent, withNumber, withAll, allMarked}
+use Rattle.law_order.specs.Each.{Right, Apart, Unmarked, Each, eventAt, withEvent, withAll}
 
 -- the rules of a record: those of its bytes and the sheet, that of the map and that of the number of events
 module _ (s : List ℕ) (sheet : Sheet) (m : List ℕ) (events : ℕ) where

@@ -35,9 +35,9 @@ use Rattle.ledger.proofs.SoundLaws.{sound-stays-sound}
 use Rattle.records.specs.Records.{isBroken}
 use Rattle.book.specs.Book.{BookState, starting, takeRecord, takeAll, afterBook}
 use Rattle.book.proofs.RunLaws.{sound-taken, refusedIn, answerIn, refused-counted}
-use Rattle.law_sums.specs.Accepted.{zeroMap, Accepted}
+use Rattle.law_sums.specs.Accepted.{zeroMap, Accepted, allMarked}
 use Rattle.law_sums.specs.Theorem.{eventsOf}
-use Rattle.law_order.specs.Each.{Right, withAll, allMarked, onlySheet, Told}
+use Rattle.law_order.specs.Each.{Right, withAll, onlySheet, Told}
 use Rattle.law_order.proofs.EachLaws.{Ready, right-kind, right-not-sheet, each-taken, each-accepted}
 
 -- the start of a book is sound, and its map of the right size

@@ -16,11 +16,10 @@ use Rattle.ledger.specs.Ledger.{added}
 use Rattle.ledger.specs.Sound.{soundLedger}
 use Rattle.ledger.specs.Take.{answerOf, ledgerAfter, mapAfter}
 use Rattle.book.specs.Book.{takeRecord}
-use Rattle.law_sums.specs.Accepted.{Accepted}
+use Rattle.law_sums.specs.Accepted.{Accepted, numberIn}
 use Rattle.index.specs.declared.Level.the-variants as level
 use Rattle.index.specs.Sums.{levelSum}
 use Rattle.worked.specs.Worked.{year, ledgerOf, totals}
-use Rattle.law_order.specs.Each.{numberIn}
 use Rattle.law_order.specs.Reorder.{end, SameEnd}
 use Rattle.law_order.specs.Turned.{yearSheet, asWorked, turnedYear}
 

@@ -10,7 +10,7 @@ use Rattle.base.specs.Lists.{All}
 use Rattle.wire.specs.Frame.{kindOf}
 use Rattle.codes.specs.Ranges.{mostEvents}
 use Rattle.annex.specs.Annex.{endOf, figuresOf}
-use Rattle.used_numbers.specs.Marks.{marked, markedWith}
+use Rattle.used_numbers.specs.Marks.{marked}
 use Rattle.fields.specs.declared.Sheet.{Sheet}
 use Rattle.fields.specs.Fields.{sheetIn, headIn}
 use Rattle.verdict.specs.declared.Verdict.{Verdict}
@@ -18,7 +18,7 @@ use Rattle.verdict.specs.Verdict.{eventVerdict}
 use Rattle.record.specs.Rules.{unframed, kindNotTaken, lengthWrong, sheetMissingOrSecond, sheetOutOfRange, notListed, timeWrong, countTooLarge, countTooHigh, someAfterNone}
 use Rattle.ledger.specs.declared.Ledger.{Ledger}
 use Rattle.ledger.specs.Ledger.{emptyLedger, added}
-use Rattle.law_sums.specs.Accepted.{zeroMap, eventIn}
+use Rattle.law_sums.specs.Accepted.{zeroMap, eventIn, numberIn}
 
 -- right by itself under a sheet: none of the rules 2 to 13 applies
 pub record Right (sheet : Sheet) (s : List ℕ) : Type 0 where
@@ -32,9 +32,6 @@ pub record Right (sheet : Sheet) (s : List ℕ) : Type 0 where
   pub few : countTooLarge (kindOf s) s sheet ≡ false
   pub low : countTooHigh (kindOf s) s ≡ false
   pub some : someAfterNone (kindOf s) s ≡ false
-
-abbrev pub numberIn : List ℕ → ℕ
-numberIn s = headIn s .number
 
 -- two numbers that a map tells apart: a number of two bytes is below 65,536, and a map of 8,192 bytes has a bit for each of those and for no other
 abbrev pub Apart : ℕ → ℕ → Type 0
@@ -62,15 +59,9 @@ eventAt sheet s = eventVerdict sheet (headIn s) (endOf (eventIn s)) (figuresOf (
 abbrev pub withEvent : Sheet → Ledger → List ℕ → Ledger
 withEvent sheet l s = added l (eventAt sheet s)
 
-abbrev pub withNumber : List ℕ → List ℕ → List ℕ
-withNumber m s = markedWith m (numberIn s)
-
--- all the events of records added, and all their numbers marked
+-- all the events of records added
 abbrev pub withAll : Sheet → Ledger → List (List ℕ) → Ledger
 withAll sheet l ss = foldl (withEvent sheet) l ss
-
-abbrev pub allMarked : List ℕ → List (List ℕ) → List ℕ
-allMarked m ss = foldl withNumber m ss
 
 -- the empty ledger with a sheet
 abbrev pub onlySheet : List ℕ → Ledger

@@ -1,15 +1,15 @@
 -- The theorem *accepted events add exactly the annex* (01, "What one event adds"; 003, 4.3.1): whatever records are taken, in whatever state, each cell
--- grows by the annex's sum over the accepted events that count in it. No soundness is asked: an unsound ledger refuses every record. Assumes nothing.
+-- grows by the annex's sum over the accepted events that count in it, just their numbers are marked, and the sheet is the first. No soundness is asked: an unsound ledger refuses every record. Assumes nothing.
 use Prim.Native.Nat.{ℕ, _+_, _<_}
 use mathlib.Core.Path.{_≡_, refl, sym, ap, _∙_}
 use mathlib.Core.List.{List, [], _∷_, map}
-use mathlib.Core.Bool.{Bool, true, false, _&&_, not, cond, true≢false}
+use mathlib.Core.Bool.{Bool, true, false, _&&_, _||_, not, cond}
 use lib.ListN.{length, getD, getD-replicate}
 use lib.Dec.{eqb}
 use native.Mathlib.Nat.{add-zero, zero-add}
 use native.Mathlib.Omega.{arith}
-use borrow.Author.Tests.{eqb-true, eqb-false, ltb-true, not-false}
-use Rattle.base.specs.Lists.{sum, keep}
+use borrow.Author.Tests.{eqb-true, eqb-false, ltb-true}
+use Rattle.base.specs.Lists.{listed, sum, keep}
 use Rattle.base.proofs.TestLaws.{Tested, holds, fails, test, and-left, and-right}
 use Rattle.wire.specs.Frame.{kindOf}
 use Rattle.wire.specs.Cut.{recordsOf}
@@ -22,11 +22,9 @@ use Rattle.annex.specs.Annex.{simple, stepped, startOf, endOf, shortEvent, figu
 use Rattle.annex.proofs.FoldLaws.{nothing-gives, figures-given}
 use Rattle.fields.specs.declared.Sheet.{Sheet}
 use Rattle.fields.specs.declared.Head.{Head}
-use Rattle.fields.specs.Fields.{sheetIn, headIn, simpleIn, stepsIn}
+use Rattle.fields.specs.Fields.{sheetIn, noSheet, headIn, simpleIn, stepsIn}
 use Rattle.fields.specs.Tests.{headListed}
-use Rattle.verdict.specs.declared.Verdict.{Verdict}
 use Rattle.verdict.specs.Verdict.{sheetVerdict, eventVerdict}
-use Rattle.record.specs.Rules.{byKind}
 use Rattle.record.specs.Verdict.{acceptedAt}
 use Rattle.ledger.specs.declared.TypeRow.{TypeRow}
 use Rattle.ledger.specs.declared.Ledger.{Ledger}
@@ -35,48 +33,21 @@ use Rattle.ledger.specs.Inside.{Shaped}
 use Rattle.ledger.specs.Take.{answerOf, ledgerAfter}
 use Rattle.ledger.proofs.CellLaws.{added-sheet, added-held, empty-shaped}
 use Rattle.ledger.proofs.TakeLaws.{accepted-verdict, accepted-adds, refused-hands-back, shape-kept}
-use Rattle.ledger.proofs.ExactlyThen.{accepted-rules}
 use Rattle.book.specs.Book.{BookState, starting, takeRecord, takeAll}
-use Rattle.law_sums.specs.Accepted.{zeroMap, Accepted, eventIn, rowIn, acceptedEvents, shortOnes, sumOf}
-use Rattle.law_sums.specs.Theorem.{refusedOnes, Adds, eventsOf, IsSum}
+use Rattle.law_sums.specs.Accepted.{zeroMap, Accepted, eventIn, rowIn, acceptedOf, isSheet, acceptedEvents, acceptedSheets, shortOnes, sumOf, numbersOf, allMarked, sheetBy}
+use Rattle.law_sums.specs.Theorem.{refusedOnes, Adds, eventsOf, sheetsOf, IsSum}
+use Rattle.law_sums.proofs.StateLaws.{eventOf, event-verdict, accepted-listed, records-mark, records-marked, records-sheet, zero-unmarked}
 use Rattle.base.proofs.SumLaws.{sum-kept, sum-of-ones, count-kept}
 
--- the verdict on the event that a record tells, and the ledger with a sheet put in
-abbrev eventOf : Sheet → List ℕ → Verdict
-eventOf sheet s = eventVerdict sheet (headIn s) (endOf (eventIn s)) (figuresOf (eventIn s))
-
+-- the ledger with a sheet put in
 abbrev withSheet : Ledger → Sheet → Ledger
 withSheet l next = record { sheet = next; events = l .events; short = l .short; rows = l .rows }
-
-event-verdict : (s : List ℕ) (sheet : Sheet) → eqb (kindOf s) 1 ≡ false → acceptedAt (kindOf s) s sheet ≡ eventOf sheet s
-event-verdict s sheet k = go (test (eqb (kindOf s) 2))
-  where
-    go : Tested (eqb (kindOf s) 2) → acceptedAt (kindOf s) s sheet ≡ eventOf sheet s
-    go (holds e) = rw (k, e)
-    go (fails e) = rw (k, e)
-
--- what is asked of events is asked of a record of a kind taken that is no sheet
-event-asked : (kind : ℕ) (x : Bool) → not (byKind kind true true true) ≡ false → eqb kind 1 ≡ false → byKind kind false x x ≡ false → x ≡ false
-event-asked kind x t k e = go (eqb kind 1) (eqb kind 2) (eqb kind 3) t k e
-  where
-    go :
-        (a b c : Bool) →
-        not (cond a true (cond b true (cond c true false))) ≡ false →
-        a ≡ false →
-        cond a false (cond b x (cond c x false)) ≡ false →
-        x ≡ false
-    go true b c t k e = absurd (true≢false k)
-    go false true c t k e = e
-    go false false true t k e = e
-    go false false false t k e = absurd (true≢false t)
 
 listed-row : (h : Head) → headListed h ≡ true → rowOf (h .typ) < rows
 listed-row h e = ltb-true _ _ (and-right (not (eqb (h .number) 0)) _ (and-left _ _ (and-left _ _ e)))
 
 accepted-row : (l : Ledger) (m s : List ℕ) → answerOf l m s ≡ 0 → eqb (kindOf s) 1 ≡ false → rowIn s < rows
-accepted-row l m s a k =
-    let c = accepted-rules l m s a in
-    listed-row (headIn s) (not-false _ (event-asked (kindOf s) (not (headListed (headIn s))) (c 3) k (c 7)))
+accepted-row l m s a k = listed-row (headIn s) (accepted-listed l m s a k)
 
 -- a number of the ledger that no sheet changes, and that an event raises by what it counts: all the accepted events together raise it by their sum
 module _
@@ -209,6 +180,9 @@ adds-exactly st ss n =
           by-records (λ l. l .short) (λ s. cond (shortEvent (eventIn s)) 1 0) (λ l next. refl) (λ l s n b. event-counted-short l s) st ss n ∙
           ap (λ x. st .ledger .short + x) (count-kept (λ s. shortEvent (eventIn s)) es);
       refused = refused-counted st ss;
+      map = records-mark st ss;
+      marks = records-marked st ss;
+      sheet = records-sheet st ss;
     }
   where
     es : List (List ℕ)
@@ -218,29 +192,23 @@ adds-exactly st ss n =
 pub book-adds-exactly : (l : Ledger) (m book : List ℕ) → Shaped l → Adds (starting l m) (recordsOf book)
 book-adds-exactly l m book n = adds-exactly (starting l m) (recordsOf book) n
 
--- where no record is refused, the accepted events are all the records that are no sheets
-all-accepted :
-    (st : BookState) (ss : List (List ℕ)) →
-    length (refusedOnes st ss) ≡ 0 →
-    acceptedEvents st ss ≡ keep (λ (s : List ℕ). not (eqb (kindOf s) 1)) ss
-all-accepted st [] z = refl
-all-accepted st (s ∷ ss) z = go (eqb (answerOf (st .ledger) (st .map) s) 0) z (all-accepted (takeRecord st s) ss)
+-- where no record is refused, the accepted records that pass a test are all those that do
+all-accepted : (f : List ℕ → Bool) (st : BookState) (ss : List (List ℕ)) → length (refusedOnes st ss) ≡ 0 → acceptedOf f st ss ≡ keep f ss
+all-accepted f st [] z = refl
+all-accepted f st (s ∷ ss) z = go (eqb (answerOf (st .ledger) (st .map) s) 0) z (all-accepted f (takeRecord st s) ss)
   where
     refused : List (List ℕ)
     refused = refusedOnes (takeRecord st s) ss
 
-    events : List (List ℕ)
-    events = acceptedEvents (takeRecord st s) ss
-
-    kept : List (List ℕ)
-    kept = keep (λ (s : List ℕ). not (eqb (kindOf s) 1)) ss
+    taken : List (List ℕ)
+    taken = acceptedOf f (takeRecord st s) ss
 
     go :
         (t : Bool) →
         length (cond t refused (s ∷ refused)) ≡ 0 →
-        (length refused ≡ 0 → events ≡ kept) →
-        cond (t && not (eqb (kindOf s) 1)) (s ∷ events) events ≡ cond (not (eqb (kindOf s) 1)) (s ∷ kept) kept
-    go true z h = ap (λ es. cond (not (eqb (kindOf s) 1)) (s ∷ es) es) (h z)
+        (length refused ≡ 0 → taken ≡ keep f ss) →
+        cond (t && f s) (s ∷ taken) taken ≡ cond (f s) (s ∷ keep f ss) (keep f ss)
+    go true z h = ap (λ es. cond (f s) (s ∷ es) es) (h z)
     go false z h = absurd (omega (arith, z))
 
 empty-held : (x : Figure) (row h : ℕ) → row < rows → h < levels → heldIn x emptyLedger row h ≡ 0
@@ -264,6 +232,11 @@ accepted-book-adds book accepted =
           ap (sumOf x row h) all;
       events = adds .events ∙ zero-add (length es) ∙ ap length all;
       short = adds .short ∙ zero-add (length (shortOnes es)) ∙ ap (λ es. length (shortOnes es)) all;
+      map = adds .map ∙ ap (allMarked zeroMap) all;
+      marks =
+          λ v b.
+          adds .marks v b ∙ ap (λ (t : Bool). t || listed v (numbersOf es)) (zero-unmarked v) ∙ ap (λ (es : List (List ℕ)). listed v (numbersOf es)) all;
+      sheet = adds .sheet ∙ ap (sheetBy noSheet) sheets;
     }
   where
     es : List (List ℕ)
@@ -272,7 +245,11 @@ accepted-book-adds book accepted =
     adds : Adds (starting emptyLedger zeroMap) (recordsOf book)
     adds = book-adds-exactly emptyLedger zeroMap book empty-shaped
 
+    none-refused : length (refusedOnes (starting emptyLedger zeroMap) (recordsOf book)) ≡ 0
+    none-refused = sym (zero-add _) ∙ sym (adds .refused) ∙ accepted .all
+
     all : es ≡ eventsOf book
-    all =
-        all-accepted (starting emptyLedger zeroMap) (recordsOf book)
-        (sym (zero-add _) ∙ sym (adds .refused) ∙ accepted .all)
+    all = all-accepted (λ (s : List ℕ). not (isSheet s)) (starting emptyLedger zeroMap) (recordsOf book) none-refused
+
+    sheets : acceptedSheets (starting emptyLedger zeroMap) (recordsOf book) ≡ sheetsOf book
+    sheets = all-accepted isSheet (starting emptyLedger zeroMap) (recordsOf book) none-refused

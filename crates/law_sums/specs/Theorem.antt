@@ -3,19 +3,20 @@
 use Prim.Native.Nat.{ℕ, _+_, _<_}
 use mathlib.Core.Path.{_≡_}
 use mathlib.Core.List.{List, [], _∷_}
-use mathlib.Core.Bool.{not, cond}
+use mathlib.Core.Bool.{_||_, not, cond}
 use lib.ListN.{length}
 use lib.Dec.{eqb}
-use Rattle.base.specs.Lists.{keep}
-use Rattle.wire.specs.Frame.{kindOf}
+use Rattle.base.specs.Lists.{listed, keep}
 use Rattle.wire.specs.Cut.{recordsOf}
 use Rattle.ledger.specs.declared.Ledger.{Ledger}
 use Rattle.codes.specs.Codes.{rows, levels}
 use Rattle.annex.specs.Figure.{Figure}
 use Rattle.ledger.specs.Ledger.{emptyLedger, heldIn}
 use Rattle.ledger.specs.Take.{answerOf}
+use Rattle.used_numbers.specs.Marks.{marked}
+use Rattle.fields.specs.Fields.{noSheet}
 use Rattle.book.specs.Book.{BookState, starting, takeRecord, takeAll, afterBook}
-use Rattle.law_sums.specs.Accepted.{zeroMap, acceptedEvents, shortOnes, sumOf}
+use Rattle.law_sums.specs.Accepted.{zeroMap, isSheet, acceptedEvents, shortOnes, sumOf, numbersOf, allMarked, acceptedSheets, sheetBy}
 
 -- the records that are refused, among those taken from a state on
 abbrev pub refusedOnes : BookState → List (List ℕ) → List (List ℕ)
@@ -23,7 +24,8 @@ refusedOnes st [] = []
 refusedOnes st (s ∷ ss) =
     cond (eqb (answerOf (st .ledger) (st .map) s) 0) (refusedOnes (takeRecord st s) ss) (s ∷ refusedOnes (takeRecord st s) ss)
 
--- each cell grows by the annex's sum over the accepted events of its row that are not short, and by nothing else
+-- each cell grows by the annex's sum over the accepted events of its row that are not short, and by nothing else; the map is the one lent, with just the
+-- accepted events' numbers marked; the sheet is the one that was there, or else that of the first accepted sheet record's bytes
 pub record Adds (st : BookState) (ss : List (List ℕ)) : Type 0 where
   pub cells :
       (x : Figure) (row h : ℕ) →
@@ -33,17 +35,32 @@ pub record Adds (st : BookState) (ss : List (List ℕ)) : Type 0 where
   pub events : takeAll st ss .ledger .events ≡ st .ledger .events + length (acceptedEvents st ss)
   pub short : takeAll st ss .ledger .short ≡ st .ledger .short + length (shortOnes (acceptedEvents st ss))
   pub refused : takeAll st ss .refused ≡ st .refused + length (refusedOnes st ss)
+  pub map : takeAll st ss .map ≡ allMarked (st .map) (acceptedEvents st ss)
+  pub marks : (v : ℕ) → v < 65536 → marked (takeAll st ss .map) v ≡ (marked (st .map) v || listed v (numbersOf (acceptedEvents st ss)))
+  pub sheet : takeAll st ss .ledger .sheet ≡ sheetBy (st .ledger .sheet) (acceptedSheets st ss)
 
 -- the records of a book that are no sheets
 abbrev pub eventsOf : List ℕ → List (List ℕ)
-eventsOf book = keep (λ (s : List ℕ). not (eqb (kindOf s) 1)) (recordsOf book)
+eventsOf book = keep (λ (s : List ℕ). not (isSheet s)) (recordsOf book)
 
+-- the sheet records of a book: an accepted book has one, its first record, and the book of no bytes has none
+abbrev pub sheetsOf : List ℕ → List (List ℕ)
+sheetsOf book = keep isSheet (recordsOf book)
+
+-- the ledger and the map after a book, taken from an empty ledger and an all-zero map
 abbrev pub bookLedger : List ℕ → Ledger
 bookLedger book = afterBook emptyLedger zeroMap book .ledger
 
--- of an accepted book, taken from an empty ledger and an all-zero map: all its events count, and each cell is the annex's sum over them
+abbrev pub bookMap : List ℕ → List ℕ
+bookMap book = afterBook emptyLedger zeroMap book .map
+
+-- of an accepted book: all its events count, and each cell is the annex's sum over them; the map has just their numbers marked, and the sheet is that of
+-- the sheet record's bytes
 pub record IsSum (book : List ℕ) : Type 0 where
   pub all : acceptedEvents (starting emptyLedger zeroMap) (recordsOf book) ≡ eventsOf book
   pub cells : (x : Figure) (row h : ℕ) → row < rows → h < levels → heldIn x (bookLedger book) row h ≡ sumOf x row h (eventsOf book)
   pub events : bookLedger book .events ≡ length (eventsOf book)
   pub short : bookLedger book .short ≡ length (shortOnes (eventsOf book))
+  pub map : bookMap book ≡ allMarked zeroMap (eventsOf book)
+  pub marks : (v : ℕ) → v < 65536 → marked (bookMap book) v ≡ listed v (numbersOf (eventsOf book))
+  pub sheet : bookLedger book .sheet ≡ sheetBy noSheet (sheetsOf book)
