@@ -272,7 +272,7 @@ messages-complete st rs =
     let ds : List Deed = map deedOf (acceptedOf st (map message rs)) in
     closed-only ds ds (messages-no-take st rs)
 
-message-bytes : (rs : List (List ℕ)) → All Bytes rs → All (λ a. Bytes (bytesOf a)) (map message rs)
+pub message-bytes : (rs : List (List ℕ)) → All Bytes rs → All (λ a. Bytes (bytesOf a)) (map message rs)
 message-bytes [] b = tt
 message-bytes (s ∷ rs) b = (b .0, message-bytes rs (b .1))
 

@@ -193,7 +193,7 @@ pub book-adds-exactly : (l : Ledger) (m book : List ℕ) → Shaped l → Adds (
 book-adds-exactly l m book n = adds-exactly (starting l m) (recordsOf book) n
 
 -- where no record is refused, the accepted records that pass a test are all those that do
-all-accepted : (f : List ℕ → Bool) (st : BookState) (ss : List (List ℕ)) → length (refusedOnes st ss) ≡ 0 → acceptedOf f st ss ≡ keep f ss
+pub all-accepted : (f : List ℕ → Bool) (st : BookState) (ss : List (List ℕ)) → length (refusedOnes st ss) ≡ 0 → acceptedOf f st ss ≡ keep f ss
 all-accepted f st [] z = refl
 all-accepted f st (s ∷ ss) z = go (eqb (answerOf (st .ledger) (st .map) s) 0) z (all-accepted f (takeRecord st s) ss)
   where
