@@ -1,3 +1,4 @@
 pub mod DivisionLaws
 pub mod RoundLaws
+pub mod NumberLaws
 pub mod OneOutcome

@@ -1,10 +1,12 @@
 -- `rounded` is the one number of units that is nearest, and what a decimal shows is that number. Assumes nothing.
 use Prim.Native.Nat.{ℕ, _+_, _*_, _/_, _%_, _^_, _<_, _≤_}
-use mathlib.Core.Path.{_≡_, refl, sym, _∙_, ap}
+use mathlib.Core.Path.{_≡_, refl, sym, _∙_, ap, subst}
 use native.Mathlib.Omega.{arith}
-use native.Mathlib.Nat.{add-assoc, mul-left-comm, mul-le-mul-right, div-add-mod', mod-lt}
+use native.Mathlib.Nat.{add-assoc, mul-assoc, mul-left-comm, mul-right-comm, add-mul, mul-le-mul-right, eq-of-mul-eq-mul-right, div-add-mod', mod-lt}
 use borrow.Author.Tests.{eq-eqb, ne-eqb, lt-ltb, le-ltb}
 use Rattle.ratio.specs.declared.Fraction.{Fraction}
+use Rattle.ratio.specs.Lowest.{gcdOf, lowestOf}
+use Rattle.ratio.proofs.Euclid.{gcd-pos, parts-times-gcd, lowest-lowest}
 use Rattle.decimal.specs.declared.Division.{Division}
 use Rattle.decimal.specs.declared.Shown.the-variants.{Is, Refused}
 use Rattle.decimal.specs.Decimal.{Nearest, rounded, splitAt, decimalOf, shownOf, Divided}
@@ -35,6 +37,37 @@ nearest-unique n d k v w p q =
     let a : v < w → ⊥ = nearest-not-less n d k v w p q in
     let b : w < v → ⊥ = nearest-not-less n d k w v q p in
     omega arith
+
+-- the same fraction in larger terms has the same nearest
+module _ (n d k v g : ℕ) (p : 0 < g) (h : Nearest n d k v) where
+  value-times : 2 * (n * g * 10 ^ k) ≡ 2 * (n * 10 ^ k) * g
+  value-times = ap (λ (x : ℕ). 2 * x) (mul-right-comm n g (10 ^ k)) ∙ sym (mul-assoc 2 (n * 10 ^ k) g)
+
+  shown-times : 2 * (v * (d * g)) ≡ 2 * (v * d) * g
+  shown-times = ap (λ (x : ℕ). 2 * x) (sym (mul-assoc v d g)) ∙ sym (mul-assoc 2 (v * d) g)
+
+  pub nearest-times : Nearest (n * g) (d * g) k v
+  nearest-times =
+      let x = 2 * (n * 10 ^ k) in
+      let y = 2 * (v * d) in
+      let a : y * g ≤ (x + d) * g = mul-le-mul-right g (h .not-far-above) in
+      let b : x * g ≤ (y + d) * g = mul-le-mul-right g (h .not-far-below) in
+      let e : (x + d) * g ≡ x * g + d * g = add-mul x d g in
+      let f : (y + d) * g ≡ y * g + d * g = add-mul y d g in
+      record {
+        not-far-above = rw (value-times, shown-times) (omega arith);
+        not-far-below = rw (value-times, shown-times) (omega arith);
+        tie-upward = λ z. h .tie-upward (eq-of-mul-eq-mul-right g p x (y + d) (sym value-times ∙ z ∙ ap (λ (t : ℕ). t + d * g) shown-times ∙ sym f));
+      }
+
+-- what is nearest to a fraction in lowest terms is nearest to the fraction
+pub lowest-nearest : (n d k v : ℕ) → 0 < d → Nearest (lowestOf n d .top) (lowestOf n d .bottom) k v → Nearest n d k v
+unfolding lowestOf
+lowest-nearest n d k v p h =
+    let g = gcdOf n d in
+    let m = parts-times-gcd n d in
+    let t : Nearest (n / g * g) (d / g * g) k v = nearest-times (n / g) (d / g) k v g (gcd-pos n d p) h in
+    subst (λ (x : ℕ). Nearest x d k v) (m .0) (subst (λ (y : ℕ). Nearest (n / g * g) y k v) (m .1) t)
 
 -- the rounding of a number of units, by the rest that its division leaves
 module _ (n d k q r : ℕ) (e : n * 10 ^ k ≡ q * d + r) (l : r < d) where
@@ -78,6 +111,15 @@ pub decimal-value : (f : Fraction) (k : ℕ) →
     decimalOf f k .whole * 10 ^ k + decimalOf f k .digits ≡ rounded (f .top) (f .bottom) k
 unfolding decimalOf
 decimal-value f k = div-add-mod' (rounded (f .top) (f .bottom) k) (10 ^ k)
+
+-- and a fraction in lowest terms is shown as the fraction
+pub lowest-decimal : (n d k : ℕ) → 0 < d → decimalOf (lowestOf n d) k ≡ decimalOf (record { top = n; bottom = d }) k
+unfolding decimalOf
+lowest-decimal n d k p =
+    let f = lowestOf n d in
+    let exists : f .bottom ≡ 0 → ⊥ = lowest-lowest n d p .exists in
+    let near = lowest-nearest n d k (rounded (f .top) (f .bottom) k) p (rounded-nearest (f .top) (f .bottom) k (omega arith)) in
+    ap (λ (v : ℕ). splitAt v (10 ^ k)) (nearest-unique n d k (rounded (f .top) (f .bottom) k) (rounded n d k) near (rounded-nearest n d k p))
 
 pub no-bottom-17 : (f : Fraction) (k : ℕ) → f .bottom ≡ 0 → shownOf f k ≡ Refused 17
 unfolding shownOf

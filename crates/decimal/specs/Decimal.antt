@@ -3,7 +3,9 @@ use Prim.Native.Nat.{ℕ, _+_, _*_, _/_, _%_, _^_, _<_, _≤_}
 use mathlib.Core.Path.{_≡_}
 use mathlib.Core.List.{List, [], _∷_}
 use mathlib.Core.Bool.{cond}
+use lib.ListN.{getD}
 use lib.Dec.{ltb, eqb}
+use Rattle.base.specs.First.{Rule, first}
 use Rattle.ratio.specs.declared.Fraction.{Fraction}
 use Rattle.decimal.specs.declared.Decimal.{Decimal}
 use Rattle.decimal.specs.declared.Digit.{Digit}
@@ -38,6 +40,22 @@ shownOf f k = cond (eqb (f .bottom) 0) (Refused 17) (cond (ltb 6 k) (Refused 18)
 abbrev pub decimally : Shown → List ℕ
 decimally (Is d) = 0 ∷ d .whole ∷ d .digits ∷ []
 decimally (Refused n) = n ∷ []
+
+-- the refusals of a fraction's decimal, in the order of checking; 18: "more than 6 decimals asked"
+abbrev pub shownRules : Fraction → ℕ → List Rule
+shownRules f k = (17, eqb (f .bottom) 0) ∷ (18, ltb 6 k) ∷ []
+
+-- an answer in 01's numbers, by its rules: the number of the first that applies, alone; where none does 0, and the values
+abbrev pub numbersBy : List Rule → List ℕ → List ℕ
+numbersBy rules values = cond (eqb (first rules) 0) (0 ∷ values) (first rules ∷ [])
+
+-- the number that an answer begins with
+abbrev pub answerNumber : List ℕ → ℕ
+answerNumber numbers = getD numbers 0 0
+
+-- a fraction's decimal in 01's numbers
+unfoldable pub shownNumbers : Fraction → ℕ → List ℕ
+shownNumbers f k = numbersBy (shownRules f k) (decimalOf f k .whole ∷ decimalOf f k .digits ∷ [])
 
 -- what the inner functions of the long division promise
 pub record Tenfold (before d : ℕ) (r : Digit) : Type 0 where

@@ -1,7 +1,7 @@
 // Decimals of exact fractions, to nearest, a tie upward, by long division: no figure that a sound ledger holds is too large for it.
 ghost use mathlib.Core.Path.{_≡_};
 ghost use Prim.Native.Nat.{_+_, _*_, _<_, _≤_, _^_};
-ghost use Rattle.decimal.specs.Decimal.{shownOf, splitAt, Tenfold, Divided};
+ghost use Rattle.decimal.specs.Decimal.{decimally, shownNumbers, splitAt, Tenfold, Divided};
 use ratio::Fraction;
 
 // The whole part, and the digits after the point as one number.
@@ -88,7 +88,7 @@ fn carried(whole: u64, power: u64, digits: u64) -> Decimal
 
 // A fraction with so many digits after the point: 17 where its bottom is 0, then 18 for more than 6 digits.
 pub fn decimal_of(f: Fraction, digits: u8) -> Shown
-    ensures { λ r. ⌜ r ≡ shownOf f digits ⌝ }
+    ensures { λ r. ⌜ decimally r ≡ shownNumbers f digits ⌝ }
 {
     let d = f.bottom;
     if d == 0 {

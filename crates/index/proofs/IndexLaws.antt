@@ -71,7 +71,7 @@ module _ (l : Ledger) (index : Index) (level : Level) (set : Set) where
       first (fails s) = unsound s (unsound-refused s)
 
 -- half minutes or not, what is below the line is 0 only with nobody there
-weighted-exists : (index : Index) (d : ℕ) → (d ≡ 0 → ⊥) → weightOf index * d ≡ 0 → ⊥
+pub weighted-exists : (index : Index) (d : ℕ) → (d ≡ 0 → ⊥) → weightOf index * d ≡ 0 → ⊥
 weighted-exists Saifi d n e = n (omega arith)
 weighted-exists Saidi d n e = n (omega arith)
 weighted-exists Caidi d n e = n (omega arith)

@@ -1,9 +1,13 @@
--- The ways in which an index is answered, and what an answer that is a fraction says (01, "Indices": "Lowest terms, zero as 0/1").
+-- The ways in which an index is answered, and what an answer that is a fraction or a decimal says (01, "Indices": "Lowest terms, zero as 0/1"; "rounded
+-- to nearest, a tie upward").
+use Prim.Native.Nat.{ℕ, _+_, _*_, _^_, _<_, _≤_}
 use mathlib.Core.Path.{_≡_}
 use mathlib.Core.Bool.{true, false}
 use Rattle.ratio.specs.declared.Fraction.{Fraction}
 use Rattle.ratio.specs.Fraction.{Same}
 use Rattle.ratio.specs.Lowest.{Lowest, lowestOf}
+use Rattle.decimal.specs.declared.Decimal.{Decimal}
+use Rattle.decimal.specs.Decimal.{Nearest}
 use Rattle.codes.specs.declared.Set.{Set}
 use Rattle.ledger.specs.declared.Ledger.{Ledger}
 use Rattle.ledger.specs.Sound.{soundLedger}
@@ -36,4 +40,11 @@ pub record Given (l : Ledger) (index : Index) (level : Level) (set : Set) (f : F
 pub record Exact (l : Ledger) (index : Index) (level : Level) (set : Set) (f : Fraction) : Type 0 where
   pub lowest : Lowest f
   pub same : Same f (formulaOf l index level set)
+  pub exists : formulaOf l index level set .bottom ≡ 0 → ⊥
+
+-- a decimal with so many digits is of them and of a whole part, and these are nearest to 01's formula, which exists
+pub record Rounded (l : Ledger) (index : Index) (level : Level) (set : Set) (digits : ℕ) (d : Decimal) : Type 0 where
+  pub few : digits ≤ 6
+  pub below : d .digits < 10 ^ digits
+  pub nearest : Nearest (formulaOf l index level set .top) (formulaOf l index level set .bottom) digits (d .whole * 10 ^ digits + d .digits)
   pub exists : formulaOf l index level set .bottom ≡ 0 → ⊥

@@ -2,12 +2,13 @@
 use Prim.Native.Nat.{ℕ, _*_}
 use mathlib.Core.List.{List, [], _∷_}
 use mathlib.Core.Bool.{not, cond}
-use lib.Dec.{eqb}
+use lib.Dec.{ltb, eqb}
+use Rattle.base.specs.First.{Rule}
 use Rattle.ratio.specs.declared.Fraction.{Fraction}
 use Rattle.ratio.specs.Lowest.{lowestOf}
 use Rattle.decimal.specs.declared.Shown.{Shown}
 use Rattle.decimal.specs.declared.Shown.the-variants as shown
-use Rattle.decimal.specs.Decimal.{shownOf}
+use Rattle.decimal.specs.Decimal.{decimalOf, shownOf, numbersBy}
 use Rattle.codes.specs.declared.Set.{Set}
 use Rattle.annex.specs.Figure.{Figure, Off, Halves}
 use Rattle.ledger.specs.declared.Cell.{Cell}
@@ -63,6 +64,26 @@ indexOf l index level set =
 abbrev pub exactly : Answer → List ℕ
 exactly (Is f) = 0 ∷ f .top ∷ f .bottom ∷ []
 exactly (Refused n) = n ∷ []
+
+-- the refusals of an index and of its decimal, in the order of checking: "they check 1 (the ledger), 5 (no sheet), 17, 18"
+abbrev pub indexRules : Ledger → Index → Level → Set → List Rule
+indexRules l index level set = (1, not (soundLedger l)) ∷ (5, not (l .sheet .there)) ∷ (17, eqb (dividedBy l index level set) 0) ∷ []
+
+abbrev pub decimalRules : Ledger → Index → Level → Set → ℕ → List Rule
+decimalRules l index level set digits =
+    (1, not (soundLedger l)) ∷ (5, not (l .sheet .there)) ∷ (17, eqb (dividedBy l index level set) 0) ∷ (18, ltb 6 digits) ∷ []
+
+-- an index in 01's numbers: 01's formula in lowest terms
+unfoldable pub indexNumbers : Ledger → Index → Level → Set → List ℕ
+indexNumbers l index level set =
+    let f = lowestOf (formulaOf l index level set .top) (formulaOf l index level set .bottom) in
+    numbersBy (indexRules l index level set) (f .top ∷ f .bottom ∷ [])
+
+-- and its decimal: 01's formula, rounded
+unfoldable pub decimalNumbers : Ledger → Index → Level → Set → ℕ → List ℕ
+decimalNumbers l index level set digits =
+    let d = decimalOf (formulaOf l index level set) digits in
+    numbersBy (decimalRules l index level set digits) (d .whole ∷ d .digits ∷ [])
 
 -- a decimal of an answer; the refusals of the index come first
 abbrev pub shownAnswer : Answer → ℕ → Shown

@@ -1,10 +1,11 @@
 // SAIFI, SAIDI and CAIDI of a level or the network and a set of event types, as exact fractions in lowest terms and as decimals.
 ghost use mathlib.Core.Path.{_≡_};
 ghost use Prim.Native.Nat.{_≤_, _<_};
+ghost use Rattle.decimal.specs.Decimal.{decimally};
 ghost use Rattle.codes.specs.Codes.{levels};
 ghost use Rattle.index.specs.Sums.{plusCell, heldOr, levelSum, totalOf, customersOf};
 ghost use Rattle.index.specs.Inside.{Fit, Low};
-ghost use Rattle.index.specs.Index.{topOf, divisorOf, weightOf, indexOf, shownIndex};
+ghost use Rattle.index.specs.Index.{topOf, divisorOf, weightOf, exactly, indexNumbers, decimalNumbers};
 use annex::Customers;
 use annex::HalfMinutes;
 use codes::NO_ROW;
@@ -150,7 +151,7 @@ fn weight(index: Index) -> u64
 
 // An index as an exact fraction in lowest terms: 1 for an unsound ledger, 5 without a sheet, 17 where it divides by nobody.
 pub fn index_of(ledger: Ledger, index: Index, level: Level, set: Set) -> Answer
-    ensures { λ r. ⌜ r ≡ indexOf ledger index level set ⌝ }
+    ensures { λ r. ⌜ exactly r ≡ indexNumbers ledger index level set ⌝ }
 {
     if !ledger.sound() {
         return Answer::Refused(1);
@@ -171,7 +172,7 @@ pub fn index_of(ledger: Ledger, index: Index, level: Level, set: Set) -> Answer
 
 // The same with so many digits after the point: 18 for more than 6, after 1, 5 and 17.
 pub fn decimal_of(ledger: Ledger, index: Index, level: Level, set: Set, digits: u8) -> Shown
-    ensures { λ r. ⌜ r ≡ shownIndex ledger index level set digits ⌝ }
+    ensures { λ r. ⌜ decimally r ≡ decimalNumbers ledger index level set digits ⌝ }
 {
     match index_of(ledger, index, level, set) {
         Answer::Is(f) => decimal::decimal_of(f, digits),

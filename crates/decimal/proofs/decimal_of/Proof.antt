@@ -6,18 +6,22 @@ use mathlib.Core.Path.{_≡_, ap, sym, _∙_}
 use native.Mathlib.Omega.{arith}
 use native.Mathlib.Nat.{mod-lt}
 use Rattle.decimal.specs.declared.Shown.the-variants.{Is}
+use Rattle.decimal.specs.Decimal.{decimally}
 use Rattle.decimal.proofs.DivisionLaws.{quotient-has-room}
 use Rattle.decimal.proofs.RoundLaws.{below-half-cut-off, half-carried, no-bottom-17, too-many-18, else-shown}
+use Rattle.decimal.proofs.NumberLaws.{shown-numbers}
 use Rattle.decimal.proofs.decimal_of.Statement.{statement}
 use Rattle.decimal.proofs.decimal_of.Tie as tie
 
 returns : tie.Need-returns
-returns c = sym (no-bottom-17 (c .before .args .f) (c .before .args .digits) (c .if1 .taken))
+returns c =
+    let a = c .before .args in
+    ap decimally (sym (no-bottom-17 (a .f) (a .digits) (c .if1 .taken))) ∙ shown-numbers (a .f) (a .digits)
 
 returns-2 : tie.Need-returns-2
 returns-2 c =
     let a = c .before .before .args in
-    sym (too-many-18 (a .f) (a .digits) (c .before .if1 .left) (c .if2 .taken))
+    ap decimally (sym (too-many-18 (a .f) (a .digits) (c .before .if1 .left) (c .if2 .taken))) ∙ shown-numbers (a .f) (a .digits)
 
 divide-requires : tie.Need-divide-requires
 divide-requires c κs = (mod-lt (c .before .before .before .before .args .f .top) (omega arith), search needs)
@@ -35,15 +39,19 @@ returns-3 : tie.Need-returns-3
 returns-3 c =
     let a = c .before .before .before .before .before .before .before .before .before .before .args in
     let x = c .before .before .before .before .before .divide in
-    ap Is (c .carried .ensures ∙ sym (half-carried (a .f) (a .digits) (x .result) (x .ensures) (omega arith))) ∙
-    sym (else-shown (a .f) (a .digits) (omega arith) (omega arith))
+    ap decimally
+    (ap Is (c .carried .ensures ∙ sym (half-carried (a .f) (a .digits) (x .result) (x .ensures) (omega arith))) ∙
+    sym (else-shown (a .f) (a .digits) (omega arith) (omega arith))) ∙
+    shown-numbers (a .f) (a .digits)
 
 returns-4 : tie.Need-returns-4
 returns-4 c =
     let a = c .before .before .before .before .before .before .before .before .args in
     let x = c .before .before .before .divide in
-    ap Is (sym (below-half-cut-off (a .f) (a .digits) (x .result) (x .ensures) (omega arith))) ∙
-    sym (else-shown (a .f) (a .digits) (omega arith) (omega arith))
+    ap decimally
+    (ap Is (sym (below-half-cut-off (a .f) (a .digits) (x .result) (x .ensures) (omega arith))) ∙
+    sym (else-shown (a .f) (a .digits) (omega arith) (omega arith))) ∙
+    shown-numbers (a .f) (a .digits)
 
 pub decimal-of-spec : {M : Type 1} → statement M
 decimal-of-spec =

@@ -1,5 +1,6 @@
 -- A fraction is shown by `decimal_of`, and a refusal stays one. Assumes nothing.
 use mathlib.Core.Path.{sym, ap, _∙_}
+use Rattle.decimal.proofs.NumberLaws.{shown-is}
 use Rattle.element_rates.specs.Rates.{shownFigure}
 use borrow.Author.Needs.{needs}
 use Rattle.element_rates.proofs.shown.Statement.{statement}
@@ -7,7 +8,7 @@ use Rattle.element_rates.proofs.shown.Tie as tie
 
 returns : tie.Need-returns
 returns c =
-    c .decimal-of .ensures ∙ ap (λ a. shownFigure a (c .before .before .before .before .args .digits)) (sym (c .before .before .figure .given .1))
+    shown-is _ _ _ (c .decimal-of .ensures) ∙ ap (λ a. shownFigure a (c .before .before .before .before .args .digits)) (sym (c .before .before .figure .given .1))
 
 returns-2 : tie.Need-returns-2
 returns-2 c =

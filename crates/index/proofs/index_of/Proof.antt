@@ -15,6 +15,7 @@ use Rattle.index.specs.Inside.{Low}
 use Rattle.index.specs.Index.{topOf, divisorOf, formulaOf, dividedBy}
 use Rattle.index.proofs.SumLaws.{total-within, divisor-at-most}
 use Rattle.index.proofs.IndexLaws.{unsound-refused, sheetless-refused, nobody-refused, somebody-answered}
+use Rattle.index.proofs.NumberLaws.{index-told}
 use Rattle.index.proofs.index_of.Statement.{statement}
 use Rattle.index.proofs.index_of.Tie as tie
 
@@ -44,12 +45,14 @@ divisor-small c =
 returns : tie.Need-returns
 returns c =
     let a = c .before .before .args in
-    sym (unsound-refused (a .ledger) (a .index) (a .level) (a .set) (sym (c .before .sound .ensures) ∙ not-true _ (c .if1 .taken)))
+    index-told (a .ledger) (a .index) (a .level) (a .set) _
+    (sym (unsound-refused (a .ledger) (a .index) (a .level) (a .set) (sym (c .before .sound .ensures) ∙ not-true _ (c .if1 .taken))))
 
 returns-2 : tie.Need-returns-2
 returns-2 c =
     let a = c .before .before .before .before .before .args in
-    sym (sheetless-refused (a .ledger) (a .index) (a .level) (a .set) (sound (c .before .before .before)) (not-true _ (c .if2 .taken)))
+    index-told (a .ledger) (a .index) (a .level) (a .set) _
+    (sym (sheetless-refused (a .ledger) (a .index) (a .level) (a .set) (sound (c .before .before .before)) (not-true _ (c .if2 .taken))))
 
 total-of-requires : tie.Need-total-of-requires
 total-of-requires c κs = low (c .before .before .before .before .before)
@@ -57,9 +60,10 @@ total-of-requires c κs = low (c .before .before .before .before .before)
 returns-3 : tie.Need-returns-3
 returns-3 c =
     let a = c .before .before .before .before .before .before .before .before .before .before .before .args in
-    sym
+    index-told (a .ledger) (a .index) (a .level) (a .set) _
+    (sym
     (nobody-refused (a .ledger) (a .index) (a .level) (a .set) (sound (c .before .before .before .before .before .before .before .before .before)) (there (c .before .before .before .before .before .before))
-    (sym (divides (c .before)) ∙ c .if3 .taken))
+    (sym (divides (c .before)) ∙ c .if3 .taken)))
 
 mul-lowest : tie.Need-mul-lowest
 mul-lowest c =
@@ -69,12 +73,13 @@ mul-lowest c =
 returns-4 : tie.Need-returns-4
 returns-4 c =
     let a = c .before .before .before .before .before .before .before .before .before .before .before .before .before .before .args in
-    (λ i. Is (c .lowest .ensures i)) ∙
+    index-told (a .ledger) (a .index) (a .level) (a .set) _
+    ((λ i. Is (c .lowest .ensures i)) ∙
     (λ i. Is (lowestOf (c .before .before .top .ensures i) (c .before .weight .ensures .0 i * divides (c .before .before .before .before) i))) ∙
     (λ i. Is (lowestOf (topOf (a .index) (c .before .before .before .before .before .before .total-of .ensures i)) (formulaOf (a .ledger) (a .index) (a .level) (a .set) .bottom))) ∙
     sym
     (somebody-answered (a .ledger) (a .index) (a .level) (a .set) (sound (c .before .before .before .before .before .before .before .before .before .before .before .before)) (there (c .before .before .before .before .before .before .before .before .before))
-    (λ e. c .before .before .before .if3 .left (divides (c .before .before .before .before) ∙ e)))
+    (λ e. c .before .before .before .if3 .left (divides (c .before .before .before .before) ∙ e))))
 
 pub index-of-spec : {M : Type 1} → statement M
 index-of-spec =

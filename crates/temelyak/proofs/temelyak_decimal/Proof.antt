@@ -7,6 +7,7 @@ use borrow.Author.Tests.{eq-eqb, ne-eqb, not-true, not-false}
 use Rattle.decimal.specs.declared.Shown.{Shown}
 use Rattle.decimal.specs.Decimal.{decimally}
 use Rattle.index.specs.Index.{shownIndex}
+use Rattle.index.proofs.NumberLaws.{decimal-is}
 use Rattle.c_words.specs.Header.{headed, ifAccepted}
 use Rattle.c_words.specs.Inside.{lentLedger}
 use Rattle.c_codes.specs.Named.{indexNamed, levelNamed, setNamed}
@@ -38,7 +39,7 @@ returns-3 c =
     (sym (c .before .before .before .before .before .before .before .before .before .before .before .before .before .all-named .ensures) ∙ not-false _ (c .before .before .before .before .before .before .before .before .before .before .before .before .if1 .left))
     (eq-eqb (length out) 2 (c .before .before .before .before .before .before .before .before .before .before .before .if2 .left)) in
     let asked : c .before .before .before .before .before .decimal-of .result ≡ shownIndex (lentLedger (a .header) (a .ledger .now)) (indexNamed (a .index)) (levelNamed (a .level)) (setNamed (a .set)) (a .digits) =
-    c .before .before .before .before .before .decimal-of .ensures ∙
+    decimal-is _ _ _ _ _ _ (c .before .before .before .before .before .decimal-of .ensures) ∙
     (λ i. shownIndex (c .before .before .before .before .before .before .before .before .before .before .lent-ledger .ensures i) (c .before .before .before .before .before .before .before .before .before .index-named .ensures i) (c .before .before .before .before .before .before .before .before .level-named .ensures i) (c .before .before .before .before .before .before .before .set-named .ensures i) (c .before .before .before .before .before .before .digits-or-7 .ensures i)) ∙
     shown-cut (lentLedger (a .header) (a .ledger .now)) (indexNamed (a .index)) (levelNamed (a .level)) (setNamed (a .set)) (a .digits) in
     let pair = c .before .before .before .decimal-pair .ensures in

@@ -6,6 +6,7 @@ use lib.ListN.{length, getD}
 use borrow.Author.Tests.{eq-eqb, ne-eqb, not-true, not-false}
 use Rattle.index.specs.declared.Answer.{Answer}
 use Rattle.index.specs.Index.{indexOf, exactly}
+use Rattle.index.proofs.NumberLaws.{index-is}
 use Rattle.c_words.specs.Header.{headed, ifAccepted}
 use Rattle.c_words.specs.Inside.{lentLedger}
 use Rattle.c_codes.specs.Named.{indexNamed, levelNamed, setNamed}
@@ -37,7 +38,7 @@ returns-3 c =
     (sym (c .before .before .before .before .before .before .before .before .before .before .before .before .all-named .ensures) ∙ not-false _ (c .before .before .before .before .before .before .before .before .before .before .before .if1 .left))
     (eq-eqb (length out) 2 (c .before .before .before .before .before .before .before .before .before .before .if2 .left)) in
     let asked : c .before .before .before .before .before .index-of .result ≡ indexOf (lentLedger (a .header) (a .ledger .now)) (indexNamed (a .index)) (levelNamed (a .level)) (setNamed (a .set)) =
-    c .before .before .before .before .before .index-of .ensures ∙
+    index-is _ _ _ _ _ (c .before .before .before .before .before .index-of .ensures) ∙
     (λ i. indexOf (c .before .before .before .before .before .before .before .before .before .lent-ledger .ensures i) (c .before .before .before .before .before .before .before .before .index-named .ensures i) (c .before .before .before .before .before .before .before .level-named .ensures i) (c .before .before .before .before .before .before .set-named .ensures i)) in
     let pair = c .before .before .before .fraction-pair .ensures in
     let put = c .before .before .put .ensures in (
