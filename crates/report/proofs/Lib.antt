@@ -1,2 +1,3 @@
 pub mod ReportLaws
+pub mod DashLaws
 pub mod OneOutcome
