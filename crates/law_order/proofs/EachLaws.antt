@@ -285,7 +285,7 @@ each-counted l m r (s ∷ ss) ready each =
     ap (λ es. s ∷ es) (each-counted (withEvent (l .sheet) l s) (withNumber m s) r ss (ready-after l m s ready right accepted) rest))
 
 -- so the sheet stays, events and short events grow by their numbers, and each cell by the annex's sum over them
-with-sheet : (sheet : Sheet) (l : Ledger) (ss : List (List ℕ)) → l .sheet ≡ sheet → withAll sheet l ss .sheet ≡ sheet
+pub with-sheet : (sheet : Sheet) (l : Ledger) (ss : List (List ℕ)) → l .sheet ≡ sheet → withAll sheet l ss .sheet ≡ sheet
 unfolding added eventVerdict
 with-sheet sheet l [] e = e
 with-sheet sheet l (s ∷ ss) e = with-sheet sheet (withEvent sheet l s) ss refl

@@ -1,0 +1,3 @@
+pub mod FormulaLaws
+pub mod EndToEnd
+pub mod YearLaws

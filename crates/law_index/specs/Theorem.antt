@@ -1,0 +1,34 @@
+-- What *each index is that formula's exact fraction in lowest terms* says of an accepted book, from its bytes to the answer.
+use Prim.Native.Nat.{ℕ}
+use mathlib.Core.Path.{_≡_}
+use mathlib.Core.Logic.{_↔_}
+use mathlib.Core.List.{List, []}
+use Rattle.ratio.specs.declared.Fraction.{Fraction}
+use Rattle.ratio.specs.Fraction.{Same}
+use Rattle.ratio.specs.Lowest.{Lowest}
+use Rattle.codes.specs.declared.Set.{Set}
+use Rattle.law_sums.specs.Theorem.{bookLedger}
+use Rattle.index.specs.declared.Level.{Level}
+use Rattle.index.specs.declared.Index.{Index}
+use Rattle.index.specs.declared.Answer.{Answer}
+use Rattle.index.specs.declared.Answer.the-variants.{Is, Refused}
+use Rattle.index.specs.Index.{indexOf}
+use Rattle.law_index.specs.Formulas.{annexFraction}
+
+-- what is answered for the ledger of a book
+abbrev pub answerFor : List ℕ → Index → Level → Set → Answer
+answerFor book index level set = indexOf (bookLedger book) index level set
+
+-- the annex's fraction, in lowest terms
+pub record IsAnnex (index : Index) (book : List ℕ) (level : Level) (set : Set) (f : Fraction) : Type 0 where
+  pub lowest : Lowest f
+  pub same : Same f (annexFraction index book level set)
+
+-- 5 exactly for the book of no bytes; 17 exactly where there is a sheet and the annex's fraction divides by 0; and else the annex's fraction
+pub record EndToEnd (book : List ℕ) (index : Index) (level : Level) (set : Set) : Type 0 where
+  pub exactly-5 : (answerFor book index level set ≡ Refused 5) ↔ (book ≡ [])
+  pub exactly-17 : (answerFor book index level set ≡ Refused 17) ↔ ((book ≡ [] → ⊥) × (annexFraction index book level set .bottom ≡ 0))
+  pub else-exact :
+      (book ≡ [] → ⊥) →
+      (annexFraction index book level set .bottom ≡ 0 → ⊥) →
+      (f : Fraction) × (answerFor book index level set ≡ Is f) × IsAnnex index book level set f
