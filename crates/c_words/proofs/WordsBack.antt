@@ -14,8 +14,7 @@ use Rattle.codes.specs.Codes.{rows, levels}
 use Rattle.ledger.specs.declared.Cell.{Cell}
 use Rattle.ledger.specs.declared.TypeRow.{TypeRow}
 use Rattle.ledger.specs.declared.Ledger.{Ledger}
-use Rattle.ledger.specs.Ledger.{noCell, noRow}
-use Rattle.ledger.specs.Inside.{Shaped}
+use Rattle.ledger.specs.Ledger.{noCell, noRow, Shaped}
 use Rattle.c_words.specs.Words.{wordsFirst, rowWords, ledgerWords, wordsFit, Fit, cellsOf, cellWords, rowsOf, cellsIn, ledgerIn, flagOf, wordsOf, Fitting}
 use Rattle.c_words.proofs.WordLaws.{fit, fits}
 

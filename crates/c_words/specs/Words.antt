@@ -11,8 +11,7 @@ use Rattle.annex.specs.Figures.{customers, halfMinutes}
 use Rattle.ledger.specs.declared.Cell.{Cell}
 use Rattle.ledger.specs.declared.TypeRow.{TypeRow}
 use Rattle.ledger.specs.declared.Ledger.{Ledger}
-use Rattle.ledger.specs.Ledger.{noCell}
-use Rattle.ledger.specs.Inside.{Shaped}
+use Rattle.ledger.specs.Ledger.{noCell, Shaped}
 
 -- how many words stand before the rows, how many a row has, and how many a ledger has: 49
 abbrev pub wordsFirst : ℕ

@@ -15,8 +15,7 @@ use Rattle.annex.specs.Annex.{njhtjh2, shortEvent}
 use Rattle.annex.specs.Figure.{Figure, Halves, given}
 use Rattle.used_numbers.specs.Marks.{markedWith}
 use Rattle.ledger.specs.declared.Ledger.{Ledger}
-use Rattle.ledger.specs.Ledger.{heldIn}
-use Rattle.ledger.specs.Inside.{Shaped}
+use Rattle.ledger.specs.Ledger.{heldIn, Shaped}
 use Rattle.book.specs.Book.{BookState, starting, takeAll}
 use Rattle.law_sums.specs.Accepted as sums
 use Rattle.law_sums.specs.Theorem.{refusedOnes, Adds}

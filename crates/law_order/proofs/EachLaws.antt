@@ -30,8 +30,7 @@ use Rattle.record.specs.Verdict.{acceptedAt, recordAnswer}
 use Rattle.record.proofs.JudgeLaws.{accepted-clear}
 use Rattle.record.proofs.FairLaws.{kind-taken}
 use Rattle.ledger.specs.declared.Ledger.{Ledger}
-use Rattle.ledger.specs.Ledger.{heldIn, added}
-use Rattle.ledger.specs.Inside.{Shaped}
+use Rattle.ledger.specs.Ledger.{heldIn, added, Shaped}
 use Rattle.ledger.specs.Sound.{soundLedger}
 use Rattle.ledger.specs.Take.{answerOf, ledgerAfter, mapAfter}
 use Rattle.ledger.proofs.LedgerLaws.{sound-events}

@@ -16,8 +16,7 @@ use Rattle.fields.specs.Fields.{headIn, simpleIn, stepsIn}
 use Rattle.fields.proofs.TestLaws.{listed-row}
 use Rattle.record.specs.Rules.{notListed}
 use Rattle.ledger.specs.declared.Ledger.{Ledger}
-use Rattle.ledger.specs.Ledger.{cellOf, heldIn}
-use Rattle.ledger.specs.Inside.{Shaped}
+use Rattle.ledger.specs.Ledger.{cellOf, heldIn, Shaped}
 use Rattle.ledger.specs.Take.{ledgerAfter}
 use Rattle.ledger.proofs.CellLaws.{by-figures}
 use Rattle.ledger.proofs.ExactlyThen.{accepted-rules}

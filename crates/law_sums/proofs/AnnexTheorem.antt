@@ -28,8 +28,7 @@ use Rattle.verdict.specs.Verdict.{sheetVerdict, eventVerdict}
 use Rattle.record.specs.Verdict.{acceptedAt}
 use Rattle.ledger.specs.declared.TypeRow.{TypeRow}
 use Rattle.ledger.specs.declared.Ledger.{Ledger}
-use Rattle.ledger.specs.Ledger.{emptyLedger, noCell, emptyRow, noRow, held, heldIn, added}
-use Rattle.ledger.specs.Inside.{Shaped}
+use Rattle.ledger.specs.Ledger.{emptyLedger, noCell, emptyRow, noRow, held, heldIn, added, Shaped}
 use Rattle.ledger.specs.Take.{answerOf, ledgerAfter}
 use Rattle.ledger.proofs.CellLaws.{added-sheet, added-held, empty-shaped}
 use Rattle.ledger.proofs.TakeLaws.{accepted-verdict, accepted-adds, refused-hands-back, shape-kept}

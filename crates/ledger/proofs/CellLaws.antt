@@ -24,8 +24,7 @@ use Rattle.verdict.specs.Verdict.{refusedWith, sheetVerdict}
 use Rattle.ledger.specs.declared.Cell.{Cell}
 use Rattle.ledger.specs.declared.TypeRow.{TypeRow}
 use Rattle.ledger.specs.declared.Ledger.{Ledger}
-use Rattle.ledger.specs.Ledger.{noCell, noRow, emptyRow, emptyLedger, held, cellBy, heldIn, grownBy, grownAt, grownLevels, grownRow, added}
-use Rattle.ledger.specs.Inside.{Shaped}
+use Rattle.ledger.specs.Ledger.{noCell, noRow, emptyRow, emptyLedger, held, cellBy, heldIn, grownBy, grownAt, grownLevels, grownRow, added, Shaped}
 
 -- ---- a cell
 

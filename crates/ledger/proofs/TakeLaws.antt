@@ -18,9 +18,8 @@ use Rattle.record.specs.Rules.{rules}
 use Rattle.record.specs.Verdict.{recordAnswer, verdictOf, acceptedAt}
 use Rattle.record.proofs.JudgeLaws.{verdict-refused, verdict-accepted}
 use Rattle.ledger.specs.declared.Ledger.{Ledger}
-use Rattle.ledger.specs.Ledger.{added}
+use Rattle.ledger.specs.Ledger.{added, Shaped}
 use Rattle.ledger.specs.Take.{unsound, answerOf, ledgerAfter, mapAfter}
-use Rattle.ledger.specs.Inside.{Shaped}
 use Rattle.ledger.proofs.CellLaws.{added-refused, added-shaped}
 
 module _ (l : Ledger) (m s : List ℕ) where

@@ -1,10 +1,10 @@
--- Inner vocabulary: what adding asks of a row and a ledger, and the shape that every ledger of code has.
+-- Inner vocabulary: what adding asks of a row and a ledger.
 use Prim.Native.Nat.{ℕ, _*_, _<_, _≤_}
 use mathlib.Core.Path.{_≡_}
 use mathlib.Core.Bool.{true}
 use mathlib.Core.List.{List}
-use lib.ListN.{length, getD}
-use Rattle.codes.specs.Codes.{rows, levels}
+use lib.ListN.{getD}
+use Rattle.codes.specs.Codes.{levels}
 use Rattle.codes.specs.Ranges.{mostEvents}
 use Rattle.annex.specs.declared.Figures.{Figures}
 use Rattle.annex.specs.Figure.{Figure, figureAt, mostOf}
@@ -12,7 +12,7 @@ use Rattle.verdict.specs.declared.Verdict.{Verdict}
 use Rattle.record.specs.Inside.{Fair}
 use Rattle.ledger.specs.declared.Cell.{Cell}
 use Rattle.ledger.specs.declared.Ledger.{Ledger}
-use Rattle.ledger.specs.Ledger.{noCell, noRow, held}
+use Rattle.ledger.specs.Ledger.{noCell, held}
 use Rattle.ledger.specs.Sound.{soundLedger}
 
 -- a cell, and a row, with room for one event more
@@ -30,8 +30,3 @@ Small f = (x : Figure) (h : ℕ) → h < levels → figureAt x f h ≤ mostOf x
 pub record Fits (l : Ledger) (v : Verdict) : Type 0 where
   pub sound : soundLedger l ≡ true
   pub fair : Fair (l .sheet) (l .events) v
-
--- a ledger of as many rows and levels as there are
-pub record Shaped (l : Ledger) : Type 0 where
-  pub rows-there : length (l .rows) ≡ rows
-  pub levels-there : (row : ℕ) → row < rows → length (getD (l .rows) row noRow .levels) ≡ levels

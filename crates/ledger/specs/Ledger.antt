@@ -1,8 +1,9 @@
 -- "The ledger has the year sheet (or none), events taken (short ones included), short events, and for each of 7 types and 3 levels the
 -- customers and the half customer-minutes" (01, "What one event adds").
-use Prim.Native.Nat.{ℕ, _+_}
+use Prim.Native.Nat.{ℕ, _+_, _<_}
+use mathlib.Core.Path.{_≡_}
 use mathlib.Core.List.{List, []}
-use lib.ListN.{getD, set, replicate}
+use lib.ListN.{length, getD, set, replicate}
 use Rattle.codes.specs.Codes.{rows, levels}
 use Rattle.annex.specs.declared.Customers.{Customers}
 use Rattle.annex.specs.declared.HalfMinutes.{HalfMinutes}
@@ -27,6 +28,11 @@ noRow = record { levels = [] }
 
 abbrev pub emptyLedger : Ledger
 emptyLedger = record { sheet = noSheet; events = 0; short = 0; rows = replicate rows emptyRow }
+
+-- a ledger of as many rows and levels as there are, as every ledger of code is
+pub record Shaped (l : Ledger) : Type 0 where
+  pub rows-there : length (l .rows) ≡ rows
+  pub levels-there : (row : ℕ) → row < rows → length (getD (l .rows) row noRow .levels) ≡ levels
 
 -- the cell of a row and a level
 abbrev pub cellOf : Ledger → ℕ → ℕ → Cell
