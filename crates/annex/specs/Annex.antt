@@ -1,5 +1,6 @@
 -- The annex's sums, as 003, 4.3.1 prints them: over events j, of the customers n_jh of a level h, and of n_jh · t_jh.
 use Prim.Native.Nat.{ℕ, _+_, _*_, _-_}
+use mathlib.Core.Path.{_≡_}
 use mathlib.Core.List.{List, [], _∷_, map}
 use mathlib.Core.Bool.{Bool}
 use lib.ListN.{getD}
@@ -37,6 +38,11 @@ njhtjh2 h (simple e) =
     (getD (e .n1) h 0 + getD (e .n2) h 0) * (e .t2 - e .t1) +
     2 * getD (e .n2) h 0 * (e .t3 - e .t2)
 njhtjh2 h (stepped t0 ss) = 2 * weighed h t0 ss
+
+-- "n2 may exceed n1, but not where n1 is 0" (01, "What one event adds"): on a level where nobody was off at first, nobody is later
+abbrev pub NoneAfterNone : ℕ → Event → Type 0
+NoneAfterNone h (simple e) = getD (e .n1) h 0 ≡ 0 → getD (e .n2) h 0 ≡ 0
+NoneAfterNone h (stepped t0 ss) = Unit {0}
 
 -- when an event starts and when everyone is back: T0, and T3 or the last step's time
 abbrev pub startOf : Event → ℕ

@@ -35,6 +35,7 @@ use Rattle.ledger.proofs.TakeLaws.{accepted-verdict, accepted-adds, refused-han
 use Rattle.book.specs.Book.{BookState, starting, takeRecord, takeAll}
 use Rattle.law_sums.specs.Accepted.{zeroMap, Accepted, eventIn, rowIn, acceptedOf, isSheet, acceptedEvents, acceptedSheets, shortOnes, sumOf, numbersOf, allMarked, sheetBy}
 use Rattle.law_sums.specs.Theorem.{refusedOnes, Adds, eventsOf, sheetsOf, IsSum}
+use Rattle.law_sums.proofs.NobodyLaws.{events-nobody, sums-nobody}
 use Rattle.law_sums.proofs.StateLaws.{eventOf, event-verdict, accepted-listed, records-mark, records-marked, records-sheet, zero-unmarked}
 use Rattle.base.proofs.SumLaws.{sum-kept, sum-of-ones, count-kept}
 
@@ -172,6 +173,7 @@ adds-exactly st ss n =
           (λ l s n b. event-cell l s n b x row h c)
           st ss n ∙
           ap (λ y. heldIn x (st .ledger) row h + y) (sum-kept (countsIn row) (λ s. given x h (eventIn s)) es);
+      nobody = events-nobody st ss;
       events =
           by-records (λ l. l .events) (λ s. 1) (λ l next. refl) (λ l s n b. event-counted l s) st ss n ∙
           ap (λ x. st .ledger .events + x) (sum-of-ones es);
@@ -186,6 +188,20 @@ adds-exactly st ss n =
   where
     es : List (List ℕ)
     es = acceptedEvents st ss
+
+-- a cell whose customers have not grown has the half minutes that it had
+pub cell-nobody :
+    (st : BookState) (ss : List (List ℕ)) →
+    Shaped (st .ledger) →
+    (row h : ℕ) →
+    row < rows →
+    h < levels →
+    heldIn Off (takeAll st ss .ledger) row h ≡ heldIn Off (st .ledger) row h →
+    heldIn Halves (takeAll st ss .ledger) row h ≡ heldIn Halves (st .ledger) row h
+cell-nobody st ss n row h r c same =
+    let adds : Adds st ss = adds-exactly st ss n in
+    let none : sumOf Off row h (acceptedEvents st ss) ≡ 0 = omega (arith, same, adds .cells Off row h r c) in
+    omega (arith, adds .cells Halves row h r c, sums-nobody row h (acceptedEvents st ss) c (adds .nobody) none)
 
 -- of a book's bytes
 pub book-adds-exactly : (l : Ledger) (m book : List ℕ) → Shaped l → Adds (starting l m) (recordsOf book)

@@ -6,23 +6,27 @@ use mathlib.Core.List.{List, [], _∷_}
 use mathlib.Core.Bool.{_||_, not, cond}
 use lib.ListN.{length}
 use lib.Dec.{eqb}
-use Rattle.base.specs.Lists.{listed, keep}
+use Rattle.base.specs.Lists.{All, listed, keep}
 use Rattle.wire.specs.Cut.{recordsOf}
 use Rattle.ledger.specs.declared.Ledger.{Ledger}
 use Rattle.codes.specs.Codes.{rows, levels}
-use Rattle.annex.specs.Figure.{Figure}
+use Rattle.annex.specs.Figure.{Figure, Off, Halves, given}
 use Rattle.ledger.specs.Ledger.{emptyLedger, heldIn}
 use Rattle.ledger.specs.Take.{answerOf}
 use Rattle.used_numbers.specs.Marks.{marked}
 use Rattle.fields.specs.Fields.{noSheet}
 use Rattle.book.specs.Book.{BookState, starting, takeRecord, takeAll, afterBook}
-use Rattle.law_sums.specs.Accepted.{zeroMap, isSheet, acceptedEvents, shortOnes, sumOf, numbersOf, allMarked, acceptedSheets, sheetBy}
+use Rattle.law_sums.specs.Accepted.{zeroMap, eventIn, isSheet, acceptedEvents, shortOnes, sumOf, numbersOf, allMarked, acceptedSheets, sheetBy}
 
 -- the records that are refused, among those taken from a state on
 abbrev pub refusedOnes : BookState → List (List ℕ) → List (List ℕ)
 refusedOnes st [] = []
 refusedOnes st (s ∷ ss) =
     cond (eqb (answerOf (st .ledger) (st .map) s) 0) (refusedOnes (takeRecord st s) ss) (s ∷ refusedOnes (takeRecord st s) ss)
+
+-- an event that interrupts nobody on a level has no half minutes there, as n2 is 0 where n1 is (01, 13)
+abbrev pub NobodyNoHalves : List ℕ → Type 0
+NobodyNoHalves s = (h : ℕ) → h < levels → given Off h (eventIn s) ≡ 0 → given Halves h (eventIn s) ≡ 0
 
 -- each cell grows by the annex's sum over the accepted events of its row that are not short, and by nothing else; the map is the one lent, with just the
 -- accepted events' numbers marked; the sheet is the one that was there, or else that of the first accepted sheet record's bytes
@@ -32,6 +36,7 @@ pub record Adds (st : BookState) (ss : List (List ℕ)) : Type 0 where
       row < rows →
       h < levels →
       heldIn x (takeAll st ss .ledger) row h ≡ heldIn x (st .ledger) row h + sumOf x row h (acceptedEvents st ss)
+  pub nobody : All NobodyNoHalves (acceptedEvents st ss)
   pub events : takeAll st ss .ledger .events ≡ st .ledger .events + length (acceptedEvents st ss)
   pub short : takeAll st ss .ledger .short ≡ st .ledger .short + length (shortOnes (acceptedEvents st ss))
   pub refused : takeAll st ss .refused ≡ st .refused + length (refusedOnes st ss)

@@ -1,20 +1,25 @@
--- What passing a test of an event's times and counts says of them: times in order, counts within the level totals. Assumes nothing.
-use Prim.Native.Nat.{ℕ, _≤_}
-use mathlib.Core.Path.{_≡_}
+-- What passing a test of an event's times and counts says of them: times in order, counts within the level totals, nobody
+-- off later where nobody was at first. Assumes nothing.
+use Prim.Native.Nat.{ℕ, _<_, _≤_}
+use mathlib.Core.Path.{_≡_, sym, ap, _∙_}
 use mathlib.Core.List.{List, [], _∷_}
-use mathlib.Core.Bool.{false, not, _&&_}
+use mathlib.Core.Bool.{Bool, false, not, _&&_}
 use lib.ListN.{getD}
 use lib.Dec.{ltb, eqb}
 use native.Mathlib.Nat.{le-trans}
-use borrow.Author.Tests.{ltb-false}
+use native.Mathlib.Omega.{arith}
+use borrow.Author.Tests.{ltb-false, eq-eqb}
 use Rattle.base.specs.Lists.{any, All}
 use Rattle.base.proofs.TestLaws.{or-left, or-right}
 use Rattle.base.proofs.ChainLaws.{each-fails}
+use Rattle.codes.specs.Codes.{levels}
 use Rattle.annex.specs.declared.Simple.{Simple}
 use Rattle.annex.specs.declared.Step.{Step}
 use Rattle.annex.specs.Simple.{InOrder}
+use Rattle.annex.specs.Annex.{simple, NoneAfterNone}
 use Rattle.annex.specs.Inside.{Few, Ordered}
-use Rattle.limits.specs.Limits.{exceeding, lateStep, anyLate, simpleLate}
+use Rattle.annex.proofs.FoldLaws.{each-level}
+use Rattle.limits.specs.Limits.{exceeding, lateStep, anyLate, simpleLate, noneThenSome}
 
 pub in-time : (before time : ℕ) → lateStep before time ≡ false → (before ≤ time) × (time ≤ 600000)
 in-time before time e =
@@ -44,6 +49,20 @@ simple-ordered typ e f =
       three = ltb-false _ _ (k .1 .1 .0);
       last = ltb-false _ _ (k .1 .1 .1 .0);
     }
+
+-- 13 not answered: nobody is off later on a level where nobody was at first
+pub none-after-none : (e : Simple) → noneThenSome e ≡ false → (h : ℕ) → h < levels → NoneAfterNone h (simple e)
+none-after-none e f =
+    let k = each-fails (at 0) (at 1 ∷ at 2 ∷ []) f in
+    each-level (λ (h : ℕ). NoneAfterNone h (simple e)) (none 0 (k .0)) (none 1 (k .1 .0)) (none 2 (k .1 .1 .0))
+  where
+    at : ℕ → Bool
+    at h = eqb (getD (e .n1) h 0) 0 && ltb 0 (getD (e .n2) h 0)
+
+    none : (h : ℕ) → at h ≡ false → NoneAfterNone h (simple e)
+    none h f z =
+        let later : ltb 0 (getD (e .n2) h 0) ≡ false = ap (λ (b : Bool). b && ltb 0 (getD (e .n2) h 0)) (sym (eq-eqb _ _ z)) ∙ f in
+        omega (arith, ltb-false 0 (getD (e .n2) h 0) later)
 
 module _ {m : ℕ} {totals : List ℕ} (few : Few m totals) where
   pub within-totals : (counts : List ℕ) → exceeding totals counts ≡ false → Few m counts
