@@ -1,2 +1,3 @@
 pub mod DecodeLaws
 pub mod EncodeLaws
+pub mod TableLaws

@@ -1,3 +1,4 @@
 pub mod JudgeLaws
 pub mod FairLaws
+pub mod TableLaws
 pub mod OneOutcome
