@@ -9,7 +9,7 @@ use lib.ListN.{length, getD}
 use lib.Dec.{ltb, eqb}
 use native.Mathlib.Omega.{arith}
 use borrow.Author.Tests.{eqb-false, ne-eqb, ltb-true, ltb-false}
-use Rattle.base.specs.First.{Foremost}
+use Rattle.base.specs.First.{first, Foremost}
 use Rattle.base.proofs.TestLaws.{Tested, holds, fails, test}
 use Rattle.ratio.specs.declared.Fraction.{Fraction}
 use Rattle.ratio.specs.Lowest.{lowestOf}
@@ -28,7 +28,7 @@ use Rattle.index.specs.declared.Level.{Level}
 use Rattle.index.specs.declared.Index.{Index}
 use Rattle.index.specs.declared.Answer.{Answer}
 use Rattle.index.specs.declared.Answer.the-variants.{Is, Refused}
-use Rattle.index.specs.Index.{formulaOf, dividedBy, indexOf, exactly, indexRules, decimalRules, indexNumbers, decimalNumbers, shownAnswer, shownIndex}
+use Rattle.index.specs.Index.{formulaOf, dividedBy, indexRules, decimalRules, answeredBy, indexOf, exactly, indexNumbers, decimalNumbers, shownAnswer, shownIndex}
 use Rattle.index.specs.Answered.{Way, unsound, sheetless, divides-by-nobody, answered, Rounded}
 use Rattle.index.proofs.IndexLaws.{weighted-exists, index-exactly}
 
@@ -50,16 +50,11 @@ module _ (l : Ledger) (index : Index) (level : Level) (set : Set) where
 
   pub index-numbers : exactly (indexOf l index level set) ≡ indexNumbers l index level set
   unfolding indexOf indexNumbers
-  index-numbers = go (not (soundLedger l)) (not (l .sheet .there)) (eqb (dividedBy l index level set) 0)
+  index-numbers = go (eqb (first (indexRules l index level set)) 0) (first (indexRules l index level set))
     where
-      go :
-          (a b c : Bool) →
-          exactly (cond a (Refused 1) (cond b (Refused 5) (cond c (Refused 17) (Is lowest)))) ≡
-          numbersBy ((1, a) ∷ (5, b) ∷ (17, c) ∷ []) (lowest .top ∷ lowest .bottom ∷ [])
-      go true b c = refl
-      go false true c = refl
-      go false false true = refl
-      go false false false = refl
+      go : (t : Bool) (n : ℕ) → exactly (cond t (Is lowest) (Refused n)) ≡ cond t (0 ∷ lowest .top ∷ lowest .bottom ∷ []) (n ∷ [])
+      go true n = refl
+      go false n = refl
 
   -- the answer has these numbers, and what has them is the answer
   pub index-told : (r : Answer) → r ≡ indexOf l index level set → exactly r ≡ indexNumbers l index level set
@@ -99,7 +94,7 @@ module _ (l : Ledger) (index : Index) (level : Level) (set : Set) where
         go :
             (a b c : Bool) →
             eqb (dividedBy l index level set) 0 ≡ c →
-            decimally (shownAnswer (cond a (Refused 1) (cond b (Refused 5) (cond c (Refused 17) (Is lowest)))) digits) ≡
+            decimally (shownAnswer (answeredBy ((1, a) ∷ (5, b) ∷ (17, c) ∷ []) lowest) digits) ≡
             numbersBy ((1, a) ∷ (5, b) ∷ (17, c) ∷ (18, ltb 6 digits) ∷ []) (d .whole ∷ d .digits ∷ [])
         go true b c e = refl
         go false true c e = refl

@@ -1,9 +1,9 @@
 -- "SAIFI = customers / N; SAIDI = half minutes / (2N); CAIDI = half minutes / (2 x customers)" (01, "Indices"; 003, 4.3.1 and 4.3.2).
 use Prim.Native.Nat.{ℕ, _*_}
-use mathlib.Core.List.{List, [], _∷_}
+use mathlib.Core.List.{List, [], _∷_, _++_}
 use mathlib.Core.Bool.{not, cond}
 use lib.Dec.{ltb, eqb}
-use Rattle.base.specs.First.{Rule}
+use Rattle.base.specs.First.{Rule, first}
 use Rattle.ratio.specs.declared.Fraction.{Fraction}
 use Rattle.ratio.specs.Lowest.{lowestOf}
 use Rattle.decimal.specs.declared.Shown.{Shown}
@@ -52,28 +52,28 @@ abbrev pub formulaOf : Ledger → Index → Level → Set → Fraction
 formulaOf l index level set =
     record { top = topOf index (totalOf (l .rows) level set); bottom = weightOf index * dividedBy l index level set }
 
--- "they check 1 (the ledger), 5 (no sheet), 17"
+-- the refusals of an index and of its decimal, in the order of checking: "they check 1 (the ledger), 5 (no sheet), 17, 18"
+abbrev pub indexRules : Ledger → Index → Level → Set → List Rule
+indexRules l index level set = (1, not (soundLedger l)) ∷ (5, not (l .sheet .there)) ∷ (17, eqb (dividedBy l index level set) 0) ∷ []
+
+abbrev pub decimalRules : Ledger → Index → Level → Set → ℕ → List Rule
+decimalRules l index level set digits = indexRules l index level set ++ ((18, ltb 6 digits) ∷ [])
+
+-- an answer by its rules
+abbrev pub answeredBy : List Rule → Fraction → Answer
+answeredBy rules f = cond (eqb (first rules) 0) (Is f) (Refused (first rules))
+
+-- 01's formula in lowest terms
 unfoldable pub indexOf : Ledger → Index → Level → Set → Answer
 indexOf l index level set =
-    cond (not (soundLedger l)) (Refused 1)
-    (cond (not (l .sheet .there)) (Refused 5)
-    (cond (eqb (dividedBy l index level set) 0) (Refused 17)
-    (Is (lowestOf (formulaOf l index level set .top) (formulaOf l index level set .bottom)))))
+    answeredBy (indexRules l index level set) (lowestOf (formulaOf l index level set .top) (formulaOf l index level set .bottom))
 
 -- the answer in 01's numbers: 0, top and bottom; or the refusal
 abbrev pub exactly : Answer → List ℕ
 exactly (Is f) = 0 ∷ f .top ∷ f .bottom ∷ []
 exactly (Refused n) = n ∷ []
 
--- the refusals of an index and of its decimal, in the order of checking: "they check 1 (the ledger), 5 (no sheet), 17, 18"
-abbrev pub indexRules : Ledger → Index → Level → Set → List Rule
-indexRules l index level set = (1, not (soundLedger l)) ∷ (5, not (l .sheet .there)) ∷ (17, eqb (dividedBy l index level set) 0) ∷ []
-
-abbrev pub decimalRules : Ledger → Index → Level → Set → ℕ → List Rule
-decimalRules l index level set digits =
-    (1, not (soundLedger l)) ∷ (5, not (l .sheet .there)) ∷ (17, eqb (dividedBy l index level set) 0) ∷ (18, ltb 6 digits) ∷ []
-
--- an index in 01's numbers: 01's formula in lowest terms
+-- an index in 01's numbers
 unfoldable pub indexNumbers : Ledger → Index → Level → Set → List ℕ
 indexNumbers l index level set =
     let f = lowestOf (formulaOf l index level set .top) (formulaOf l index level set .bottom) in
