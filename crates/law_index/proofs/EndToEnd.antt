@@ -1,6 +1,6 @@
 -- The theorem *each index is that formula's exact fraction in lowest terms*, of an accepted book: it has no bytes, or a sheet and events; then 01's
 -- formula over its ledger is the annex's fraction. Assumes nothing.
-use Prim.Native.Nat.{ℕ, _*_}
+use Prim.Native.Nat.{ℕ, _+_, _*_, _^_}
 use mathlib.Core.Path.{_≡_, refl, sym, ap, subst, _∙_}
 use mathlib.Core.List.{List, [], _∷_}
 use mathlib.Core.Bool.{true, false}
@@ -14,19 +14,25 @@ use Rattle.wire.specs.Cut.{cutIn, recordsOf}
 use Rattle.ratio.specs.declared.Fraction.{Fraction}
 use Rattle.ratio.specs.Fraction.{Same}
 use Rattle.ratio.specs.Lowest.{lowestOf}
+use Rattle.decimal.specs.declared.Decimal.{Decimal}
+use Rattle.decimal.specs.declared.Shown.the-variants as shown
+use Rattle.decimal.specs.Decimal.{Nearest, decimalOf}
+use Rattle.decimal.proofs.RoundLaws.{else-shown}
 use Rattle.codes.specs.declared.Set.{Set}
+use Rattle.ledger.specs.declared.Ledger.{Ledger}
 use Rattle.law_sums.specs.Accepted.{Accepted}
 use Rattle.law_sums.specs.Theorem.{bookLedger}
 use Rattle.index.specs.declared.Level.{Level}
 use Rattle.index.specs.declared.Index.{Index}
 use Rattle.index.specs.declared.Answer.{Answer}
 use Rattle.index.specs.declared.Answer.the-variants.{Is, Refused}
-use Rattle.index.specs.Index.{weightOf, dividedBy, formulaOf}
+use Rattle.index.specs.Index.{weightOf, dividedBy, formulaOf, shownAnswer, shownIndex}
 use Rattle.index.proofs.IndexLaws.{weighted-exists, sheetless-refused, nobody-refused, somebody-answered, index-exact}
+use Rattle.index.proofs.NumberLaws.{decimal-nearest}
 use Rattle.law_order.proofs.ShapeLaws.{Shape, no-bytes, sheet-then, accepted-shape}
 use Rattle.law_adding.proofs.BookLaws.{book-sound}
 use Rattle.law_index.specs.Formulas.{annexFraction}
-use Rattle.law_index.specs.Theorem.{answerFor, IsAnnex, EndToEnd}
+use Rattle.law_index.specs.Theorem.{answerFor, IsAnnex, EndToEnd, NearAnnex, DecimalToEnd}
 use Rattle.law_index.proofs.FormulaLaws.{ledger-sheet, formula-is}
 
 same-number : (m n : ℕ) → Refused m ≡ Refused n → m ≡ n
@@ -117,3 +123,35 @@ end-to-end book accepted index level set = go (accepted-shape book accepted)
         (ap (λ sheet. sheet .there) (ledger-sheet book accepted s ss e told))
         (formula-is book accepted s ss e told level set index)
         (test (eqb (dividedBy (bookLedger book) index level set) 0))
+
+-- a decimal of an index is one of its fraction, which is nearest to 01's formula: the annex's fraction
+pub decimal-to-end :
+    (book : List ℕ) → Accepted book → (index : Index) (level : Level) (set : Set) (digits : ℕ) → DecimalToEnd book index level set digits
+decimal-to-end book accepted index level set digits some exists few = go (accepted-shape book accepted)
+  where
+    l : Ledger
+    l = bookLedger book
+
+    answered : (f : Fraction) × (answerFor book index level set ≡ Is f) × IsAnnex index book level set f
+    answered = end-to-end book accepted index level set .else-exact some exists
+
+    f : Fraction
+    f = answered .0
+
+    shows : shownIndex l index level set digits ≡ shown.Is (decimalOf f digits)
+    shows = ap (λ (a : Answer). shownAnswer a digits) (answered .1) ∙ else-shown f digits (answered .2 .lowest .exists) few
+
+    go : Shape book → (d : Decimal) × (shownIndex l index level set digits ≡ shown.Is d) × NearAnnex index book level set digits d
+    go (no-bytes e) = absurd (some e)
+    go (sheet-then s ss e j told) =
+        let near = decimal-nearest l index level set digits (decimalOf f digits) shows in (
+          decimalOf f digits,
+          shows,
+          record {
+            below = near .below;
+            nearest =
+                subst (λ (g : Fraction). Nearest (g .top) (g .bottom) digits (decimalOf f digits .whole * 10 ^ digits + decimalOf f digits .digits))
+                (formula-is book accepted s ss e told level set index)
+                (near .nearest);
+          },
+        )
