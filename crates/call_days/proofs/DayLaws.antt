@@ -7,11 +7,13 @@ use mathlib.Core.Bool.{Bool, true, false, cond}
 use lib.Dec.{eqb}
 use native.Mathlib.Omega.{arith}
 use borrow.Author.Tests.{eqb-true, eqb-false}
+use Rattle.base.specs.Lists.{All, Bytes}
 use Rattle.base.proofs.TestLaws.{Tested, holds, fails, test}
 use Rattle.wire.specs.Cut.{recordsOf}
 use Rattle.ledger.specs.declared.Ledger.{Ledger}
 use Rattle.ledger.specs.Ledger.{emptyLedger}
 use Rattle.ledger.specs.Take.{unsound, answerOf, mapAfter}
+use Rattle.ledger.proofs.CellLaws.{empty-shaped}
 use Rattle.ledger.proofs.TakeLaws.{answer-1}
 use Rattle.book.specs.declared.Read.{Read}
 use Rattle.book.specs.Book.{BookState, starting, takeRecord, takeAll, readOf, mapRead}
@@ -19,10 +21,12 @@ use Rattle.book.proofs.RunLaws.{read-nothing, read-through}
 use Rattle.slot.specs.declared.Slot.{Slot}
 use Rattle.desk_scan.specs.Desk.{emptyDesk}
 use Rattle.desk_rules.specs.Serve.{messageAnswer, mapServed, deskServed}
-use Rattle.desk_days.specs.Day.{State, message, booked, after, afterAll}
-use Rattle.desk_days.specs.Story.{emptyDay}
+use Rattle.desk_days.specs.Day.{State, Arrival, message, booked, bytesOf, after, afterAll}
+use Rattle.desk_days.specs.Story.{emptyDay, NothingOpen}
 use Rattle.desk_days.proofs.StepByStep.{refused-stays}
 use Rattle.desk_days.proofs.LateReply.{after-append}
+use Rattle.desk_sums.specs.Sums.{DayAdds}
+use Rattle.desk_sums.proofs.DayLaws.{day-adds}
 use Rattle.c_words.specs.Words.{wordsFit, ledgerIn}
 use Rattle.c_words.specs.Header.{headerWord, headed, answeredInto}
 use Rattle.c_words.proofs.LentLaws.{accepted-is}
@@ -162,3 +166,15 @@ from-empty ws m cs a =
     let begun : Holds (emptyWords headerWord ws) emptyLedger = empty-goes-on headerWord ws a in
     calls-are-a-day (record { words = emptyWords headerWord ws; map = m; desk = emptyDesk }) cs (begun .0) .1 ∙
     ap (λ (l : Ledger). afterAll (emptyDay l m) (arrivals cs)) (begun .1)
+
+-- so, once nothing is open, the ledger that C holds is the annex's sums over the events of the books and records taken and over the outages closed
+pub calls-add :
+    (ws m : List ℕ) (cs : List Call) →
+    emptyAnswer headerWord ws ≡ 0 →
+    All (λ (a : Arrival). Bytes (bytesOf a)) (arrivals cs) →
+    NothingOpen (afterCalls (record { words = emptyWords headerWord ws; map = m; desk = emptyDesk }) cs .desk) →
+    (dayIn (afterCalls (record { words = emptyWords headerWord ws; map = m; desk = emptyDesk }) cs) ≡ afterAll (emptyDay emptyLedger m) (arrivals cs)) ×
+    DayAdds emptyLedger m (arrivals cs)
+calls-add ws m cs a bytes free =
+    let day = from-empty ws m cs a in
+    (day, day-adds emptyLedger m (arrivals cs) empty-shaped bytes (subst (λ (st : State). NothingOpen (st .desk)) day free))

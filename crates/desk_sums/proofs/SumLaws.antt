@@ -1,12 +1,11 @@
 -- The theorem *the desk adds exactly the annex*: a day that leaves nothing open is its closed outages taken as complete records (`step-by-step`), these are
 -- all accepted and add the annex's sums (`adds-exactly`), and each tells the very outage that was built up (`closed-told`). Assumes nothing.
 use Prim.Native.Nat.{ℕ, _+_, _<_}
-use mathlib.Core.Path.{_≡_, refl, sym, ap, _∙_}
+use mathlib.Core.Path.{_≡_, refl, ap, _∙_}
 use mathlib.Core.List.{List, [], _∷_, map, foldl}
 use mathlib.Core.Bool.{Bool, true, false, _&&_, not, cond}
 use lib.ListN.{length}
 use lib.Dec.{eqb}
-use native.Mathlib.Nat.{zero-add}
 use native.Mathlib.Omega.{arith}
 use Rattle.base.specs.Lists.{All, sum, keep, Bytes}
 use Rattle.base.proofs.ListLaws.{all-kept}
@@ -16,16 +15,15 @@ use Rattle.annex.specs.Figure.{Figure, Halves, given}
 use Rattle.used_numbers.specs.Marks.{markedWith}
 use Rattle.ledger.specs.declared.Ledger.{Ledger}
 use Rattle.ledger.specs.Ledger.{heldIn, Shaped}
-use Rattle.book.specs.Book.{BookState, starting, takeAll}
+use Rattle.book.specs.Book.{starting, takeAll}
 use Rattle.law_sums.specs.Accepted as sums
-use Rattle.law_sums.specs.Theorem.{refusedOnes, Adds}
-use Rattle.law_sums.proofs.AnnexTheorem.{adds-exactly, all-accepted}
 use Rattle.law_people.specs.People.{halvesOfAll}
 use Rattle.law_people.proofs.PeopleLaws.{by-customer}
 use Rattle.desk_days.specs.Day.{message}
 use Rattle.desk_days.specs.Story.{SteppedEvent, steppedEventIn, eventFor, closings, recordOf, NothingOpen}
 use Rattle.desk_days.proofs.StepByStep.{step-by-step, closed-told, message-bytes}
-use Rattle.desk_sums.specs.Sums.{endOf, deedsOf, closedEvents, told, countedIn, shortOnes, sumOf, AllAgree, withNumber, DeskAdds}
+use Rattle.desk_sums.specs.Sums.{endOf, deedsOf, closedEvents, told, countedIn, shortOnes, sumOf, AllAgree, withNumber, DeskAdds, eventsIn}
+use Rattle.desk_sums.proofs.DayLaws.{all-cells, all-counted, all-short, all-sheet, all-marks}
 
 -- outages and the records that tell them
 module _ (f : ℕ → SteppedEvent) where
@@ -36,7 +34,7 @@ module _ (f : ℕ → SteppedEvent) where
   records vs = map (λ (v : ℕ). recordOf (f v)) vs
 
   -- they are events, and no sheets
-  all-events : (vs : List ℕ) → keep (λ (s : List ℕ). not (sums.isSheet s)) (records vs) ≡ records vs
+  all-events : (vs : List ℕ) → eventsIn (records vs) ≡ records vs
   all-events [] = refl
   all-events (v ∷ vs) = ap (λ (rs : List (List ℕ)). recordOf (f v) ∷ rs) (all-events vs)
 
@@ -121,9 +119,6 @@ module _
     day : takeAll (starting l m) closed ≡ record { ledger = endOf l m rs .ledger; map = endOf l m rs .map; refused = 0 }
     day = step-by-step l m rs bytes free
 
-    adds : Adds (starting l m) closed
-    adds = adds-exactly (starting l m) closed shaped
-
     tells : All (Tells outage) vs
     tells = go vs (closed-told l m (map message rs) (message-bytes rs bytes))
       where
@@ -134,20 +129,13 @@ module _
         go [] a = tt
         go (v ∷ vs) a = (a .0 .1, go vs (a .1))
 
-    none-refused : length (refusedOnes (starting l m) closed) ≡ 0
-    none-refused = sym (zero-add _) ∙ sym (adds .refused) ∙ ap (λ (st : BookState). st .refused) day
-
-    taken : sums.acceptedEvents (starting l m) closed ≡ closed
-    taken = all-accepted (λ (s : List ℕ). not (sums.isSheet s)) (starting l m) closed none-refused ∙ all-events outage vs
-
-    sheets : sums.acceptedSheets (starting l m) closed ≡ []
-    sheets = all-accepted sums.isSheet (starting l m) closed none-refused ∙ no-sheets outage vs
+    events : eventsIn closed ≡ closed
+    events = all-events outage vs
 
     grown : (x : Figure) (row h : ℕ) → row < rows → h < levels → heldIn x (endOf l m rs .ledger) row h ≡ heldIn x l row h + sumOf x row h (closedEvents l m rs)
     grown x row h r c =
-        ap (λ (st : BookState). heldIn x (st .ledger) row h) (sym day) ∙
-        adds .cells x row h r c ∙
-        ap (λ (n : ℕ). heldIn x l row h + n) (ap (sums.sumOf x row h) taken ∙ same-sums outage x row h vs tells)
+        all-cells l m closed (endOf l m rs) shaped day x row h r c ∙
+        ap (λ (n : ℕ). heldIn x l row h + n) (ap (sums.sumOf x row h) events ∙ same-sums outage x row h vs tells)
 
     pub desk-adds : DeskAdds l m rs
     desk-adds =
@@ -159,13 +147,11 @@ module _
               ap (λ (n : ℕ). heldIn Halves l row h + n)
               (customers-sum h customers (countedIn row (closedEvents l m rs)) (all-kept _ _ (closedEvents l m rs) agree));
           events =
-              ap (λ (st : BookState). st .ledger .events) (sym day) ∙
-              adds .events ∙
-              ap (λ (n : ℕ). l .events + n) (ap length taken ∙ same-length outage vs);
+              all-counted l m closed (endOf l m rs) shaped day ∙
+              ap (λ (n : ℕ). l .events + n) (ap length events ∙ same-length outage vs);
           short =
-              ap (λ (st : BookState). st .ledger .short) (sym day) ∙
-              adds .short ∙
-              ap (λ (n : ℕ). l .short + n) (ap (λ (es : List (List ℕ)). length (sums.shortOnes es)) taken ∙ same-short outage vs tells);
-          sheet = ap (λ (st : BookState). st .ledger .sheet) (sym day) ∙ adds .sheet ∙ ap (sums.sheetBy (l .sheet)) sheets;
-          map = ap (λ (st : BookState). st .map) (sym day) ∙ adds .map ∙ ap (sums.allMarked m) taken ∙ same-marks outage m vs tells;
+              all-short l m closed (endOf l m rs) shaped day ∙
+              ap (λ (n : ℕ). l .short + n) (ap (λ (es : List (List ℕ)). length (sums.shortOnes es)) events ∙ same-short outage vs tells);
+          sheet = all-sheet l m closed (endOf l m rs) shaped day ∙ ap (sums.sheetBy (l .sheet)) (no-sheets outage vs);
+          map = all-marks l m closed (endOf l m rs) shaped day ∙ ap (sums.allMarked m) events ∙ same-marks outage m vs tells;
         }

@@ -1,6 +1,6 @@
 -- What a day at the desk adds (01, "The desk", "What one event adds"; 003, 4.3.1), said of the desk alone: from an empty desk with a given ledger and map,
 -- after messages that leave nothing open, each cell has grown by the annex's sum over the closed outages, and its half customer-minutes by twice the
--- minutes of their customers, added one by one.
+-- minutes of their customers, added one by one. And the same of a day with records at the book entry in between.
 use Prim.Native.Nat.{ℕ, _+_, _<_}
 use mathlib.Core.Path.{_≡_}
 use mathlib.Core.List.{List, map, foldl}
@@ -14,9 +14,10 @@ use Rattle.annex.specs.Figure.{Figure, Halves, given}
 use Rattle.used_numbers.specs.Marks.{markedWith}
 use Rattle.ledger.specs.declared.Ledger.{Ledger}
 use Rattle.ledger.specs.Ledger.{heldIn}
+use Rattle.law_sums.specs.Accepted as sums
 use Rattle.law_people.specs.People.{halvesOfAll, Agrees}
-use Rattle.desk_days.specs.Day.{State, message, afterAll, acceptedOf}
-use Rattle.desk_days.specs.Story.{Deed, deedOf, SteppedEvent, eventFor, closings, emptyDay}
+use Rattle.desk_days.specs.Day.{State, Arrival, message, afterAll, acceptedOf}
+use Rattle.desk_days.specs.Story.{Deed, deedOf, SteppedEvent, eventFor, closings, completeRecords, emptyDay}
 
 -- the end of the day, and what its accepted messages did
 abbrev pub endOf : Ledger → List ℕ → List (List ℕ) → State
@@ -73,3 +74,22 @@ pub record DeskAdds (l : Ledger) (m : List ℕ) (rs : List (List ℕ)) : Type 0 
   pub short : endOf l m rs .ledger .short ≡ l .short + length (shortOnes (closedEvents l m rs))
   pub sheet : endOf l m rs .ledger .sheet ≡ l .sheet
   pub map : endOf l m rs .map ≡ foldl withNumber m (closedEvents l m rs)
+
+-- the complete records of any day in their order: the records that were taken at the book entry, and the closed outages'
+abbrev pub completeOf : Ledger → List ℕ → List Arrival → List (List ℕ)
+completeOf l m as′ = completeRecords (acceptedOf (emptyDay l m) as′)
+
+abbrev pub eventsIn : List (List ℕ) → List (List ℕ)
+eventsIn ss = keep (λ (s : List ℕ). not (sums.isSheet s)) ss
+
+-- each is accepted, and the annex's sums are over all their events
+pub record DayAdds (l : Ledger) (m : List ℕ) (as′ : List Arrival) : Type 0 where
+  pub cells :
+      (x : Figure) (row h : ℕ) →
+      row < rows →
+      h < levels →
+      heldIn x (afterAll (emptyDay l m) as′ .ledger) row h ≡ heldIn x l row h + sums.sumOf x row h (eventsIn (completeOf l m as′))
+  pub events : afterAll (emptyDay l m) as′ .ledger .events ≡ l .events + length (eventsIn (completeOf l m as′))
+  pub short : afterAll (emptyDay l m) as′ .ledger .short ≡ l .short + length (sums.shortOnes (eventsIn (completeOf l m as′)))
+  pub sheet : afterAll (emptyDay l m) as′ .ledger .sheet ≡ sums.sheetBy (l .sheet) (keep sums.isSheet (completeOf l m as′))
+  pub map : afterAll (emptyDay l m) as′ .map ≡ sums.allMarked m (eventsIn (completeOf l m as′))
