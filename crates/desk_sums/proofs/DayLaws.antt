@@ -10,8 +10,7 @@ use Rattle.base.specs.Lists.{All, keep, Bytes}
 use Rattle.codes.specs.Codes.{rows, levels}
 use Rattle.annex.specs.Figure.{Figure}
 use Rattle.ledger.specs.declared.Ledger.{Ledger}
-use Rattle.ledger.specs.Ledger.{heldIn}
-use Rattle.ledger.specs.Inside.{Shaped}
+use Rattle.ledger.specs.Ledger.{heldIn, Shaped}
 use Rattle.book.specs.Book.{BookState, starting, takeAll}
 use Rattle.law_sums.specs.Accepted as sums
 use Rattle.law_sums.specs.Theorem.{refusedOnes, Adds}
