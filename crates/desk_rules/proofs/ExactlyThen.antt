@@ -31,10 +31,12 @@ module _ (l : Ledger) (m : List ℕ) (d : List Slot) (s : List ℕ) where
   abbrev rulesHere : List Rule
   rulesHere = rules (lookAt d s) l m s
 
+  -- n is answered exactly where what n stands for applies and no rule before it does, and 0 exactly where no rule applies
   pub exactly : (n : ℕ) → (messageAnswer l m d s ≡ n) ↔ Foremost n (rules (lookAt d s) l m s)
   unfolding messageAnswer lookAnswer
   exactly n = exactly-then n rulesHere (rising l m d s)
 
+  -- every answer is one of these numbers
   pub exactly-no-other : listed (messageAnswer l m d s) (0 ∷ 1 ∷ 2 ∷ 3 ∷ 4 ∷ 5 ∷ 7 ∷ 8 ∷ 9 ∷ 10 ∷ 11 ∷ 12 ∷ 14 ∷ 15 ∷ 16 ∷ []) ≡ true
   unfolding messageAnswer lookAnswer
   exactly-no-other = first-listed rulesHere

@@ -95,6 +95,7 @@ kind-taken kind e = go (test (eqb kind 16)) (test (eqb kind 17)) (test (eqb kind
         absurd (true≢false (sym (not-false (byMessage kind true true true) e) ∙ none))
 
 module _ (l : Ledger) (m : List ℕ) (d : List Slot) (s : List ℕ) where
+  -- the numbers of the rules rise, and all are above 0
   pub rising : Rising 0 (rules (lookAt d s) l m s)
   rising = (tt, (tt, (tt, (tt, (tt, (tt, (tt, (tt, (tt, (tt, (tt, (tt, (tt, (tt, tt))))))))))))))
 
@@ -124,6 +125,7 @@ module _ (l : Ledger) (m : List ℕ) (d : List Slot) (s : List ℕ) where
   unfolding messageAnswer lookAnswer
   answered n f = then n (rules (lookAt d s) l m s) f
 
+  -- an accepted message is an open, a step or a close
   pub accepted-kind : messageAnswer l m d s ≡ 0 → (kindOf s ≡ 16) ⊎ ((kindOf s ≡ 17) ⊎ (kindOf s ≡ 18))
   accepted-kind a = kind-taken (kindOf s) (accepted-rules a 3)
 
@@ -151,6 +153,7 @@ module _ (l : Ledger) (m : List ℕ) (d : List Slot) (s : List ℕ) where
   pub accepted-whole : messageAnswer l m d s ≡ 0 → framed s ≡ true
   accepted-whole a = not-false (framed s) (accepted-rules a 2)
 
+  -- an accepted open, step or close has all that its record above lists: what was asked of it, and ledger, map and desk after it
   pub opened : messageAnswer l m d s ≡ 0 → kindOf s ≡ 16 → Opened l m d s
   opened a k =
       let c = rules-at 16 a k in

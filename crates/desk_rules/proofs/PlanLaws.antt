@@ -27,6 +27,7 @@ use Rattle.desk_rules.specs.Inside.{answerAt, planAt}
 use Rattle.desk_rules.specs.Plan.{refusedPlan, acceptedPlan, lookAnswer, planOf}
 
 module _ (kind : ℕ) (k : Look) (slots : ℕ) (l : Ledger) (m s : List ℕ) where
+  -- read at a kind: an answer other than 0 has the plan of that refusal, the answer 0 the plan of an accepted message
   pub at-refused : (n : ℕ) → answerAt kind k l m s ≡ n → (n ≡ 0 → ⊥) → planAt kind k slots l m s ≡ refusedPlan l slots n
   unfolding planAt
   at-refused n e z =
@@ -59,6 +60,7 @@ accepted-answer kind k l s = go (eqb kind 16) refl (eqb kind 17) refl (eqb kind 
     go false p false q false r = rw (p, q, r)
 
 module _ (k : Look) (slots : ℕ) (l : Ledger) (m s : List ℕ) where
+  -- the same by all the rules, read at the message's own kind
   pub plan-refused : (lookAnswer k l m s ≡ 0 → ⊥) → planOf k slots l m s ≡ refusedPlan l slots (lookAnswer k l m s)
   unfolding planOf
   plan-refused z = ap (λ t. cond t (acceptedPlan (kindOf s) k l s) (refusedPlan l slots (lookAnswer k l m s))) (ne-eqb _ _ z)
@@ -67,6 +69,7 @@ module _ (k : Look) (slots : ℕ) (l : Ledger) (m s : List ℕ) where
   unfolding planOf
   plan-accepted e = ap (λ t. cond t (acceptedPlan (kindOf s) k l s) (refusedPlan l slots (lookAnswer k l m s))) (eq-eqb _ _ e)
 
+  -- a plan's answer is the one that the rules give
   pub plan-answer : planOf k slots l m s .served .answer ≡ lookAnswer k l m s
   plan-answer = go (test (eqb (lookAnswer k l m s) 0))
     where
@@ -96,6 +99,7 @@ module _ (k : Look) (slots : ℕ) (l : Ledger) (m s : List ℕ) where
       ap (λ t. cond t 1 (cond (not (framed s)) 2 (first (rulesAt (kindOf s) k l m s)))) u ∙
       ap (λ t. cond (not t) 2 (first (rulesAt (kindOf s) k l m s))) f
 
+  -- and so their plans: a refusal with 1, a refusal with 2, and the plan read at its kind
   pub plan-unsound : anyUnsound k l m ≡ true → planOf k slots l m s ≡ refusedPlan l slots 1
   plan-unsound u =
       let e = unsound-is-1 u in

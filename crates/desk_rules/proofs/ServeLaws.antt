@@ -64,6 +64,7 @@ look-is d s e =
 
 -- ---- the plan
 
+-- whatever the desk, the plan from its roll and the slot that was taken out is the plan from the desk
 pub plan-is : (l : Ledger) (m : List ℕ) (d : List Slot) (s : List ℕ) → planBy (length d) (rollOf d) (getD d (placeNamed (rollOf d) s) freeSlot) l m s ≡ planOf (lookAt d s) (length d) l m s
 plan-is l m d s = go (deskSound d) refl
   where
@@ -76,6 +77,7 @@ plan-is l m d s = go (deskSound d) refl
 -- ---- what the plan does
 
 module _ (l : Ledger) (m : List ℕ) (d : List Slot) (s : List ℕ) where
+  -- the plan's answer and ledger, the map with its number marked, and the desk with its slot put are those of the message
   pub plan-served : planned l m d s .served ≡ servedOf l m d s
   unfolding messageAnswer ledgerServed
   plan-served = λ i. record { answer = plan-answer (lookAt d s) (length d) l m s i; ledger = planned l m d s .served .ledger }

@@ -9,6 +9,7 @@ use Rattle.fields.specs.Table.{openFields, stepFields, closeFields, lengthOf, n
 use Rattle.desk_scan.specs.Desk.{numberIn}
 use Rattle.desk_rules.specs.Rules.{ordinalIn, stepIn, byMessage, lengthWrong}
 
+-- 4 asks an open, a step and a close for the length that the table's fields add up to
 pub lengths-asked :
     (kind : ℕ) (s : List ℕ) →
     lengthWrong kind s ≡
@@ -18,6 +19,7 @@ pub lengths-asked :
     (not (eqb (length s) (lengthOf closeFields)))
 lengths-asked kind s = refl
 
+-- read at the table's fields, a step is its number, ordinal, time and counts, and a close its number and the steps taken
 pub step-stands : (s : List ℕ) → numbersBy stepFields s ≡ numberIn s ∷ ordinalIn s ∷ stepIn s .time ∷ stepIn s .counts
 step-stands s = refl
 

@@ -31,6 +31,7 @@ set-cases P l i j a d b p q = go (ℕ-discrete j i)
     go (yes e) = rw (e, getD-set-same l i a d b) (p e)
     go (no n) = rw (getD-set-other l i j a d n) (q n)
 
+-- mapped, it is the mapped list with the new element's value in that place
 pub map-set : {A B : Type 0} (f : A → B) (l : List A) (i : ℕ) (a : A) → map f (set l i a) ≡ set (map f l) i (f a)
 map-set f [] i a = refl
 map-set f (x ∷ l) zero a = refl
@@ -38,6 +39,7 @@ map-set f (x ∷ l) (suc i) a = ap (λ k. f x ∷ k) (map-set f l i a)
 
 -- ---- the search in a list of numbers
 
+-- the search passes at most the whole list, and a place of the list where it ends holds the number
 pub number-at-most : (v : ℕ) (vs : List ℕ) → place v vs ≤ length vs
 number-at-most v [] = le-refl 0
 number-at-most v (w ∷ vs) = go (eqb v w) (number-at-most v vs)
@@ -72,6 +74,7 @@ number-first v (w ∷ vs) (suc i) l e h =
     ap (λ t. cond t 0 (suc (place v vs))) (ne-eqb v w (λ q. h 0 (zero-lt-suc i) (sym q))) ∙
     ap suc (number-first v vs i (le-of-suc-le-suc l) e (λ j b. h (suc j) (suc-le-suc b)))
 
+-- where no place holds it, the search passes the whole list
 pub number-missing : (v : ℕ) (vs : List ℕ) → ((i : ℕ) → i < length vs → getD vs i 0 ≢ v) → place v vs ≡ length vs
 number-missing v [] h = refl
 number-missing v (w ∷ vs) h =
@@ -123,6 +126,7 @@ numbers-apart (v ∷ vs) e zero (suc j) n q = absurd (differ-head v vs e n j (sy
 numbers-apart (v ∷ vs) e (suc i) zero n q = absurd (differ-head v vs e (λ z. n (q ∙ z)) i q)
 numbers-apart (v ∷ vs) e (suc i) (suc j) n q = ap suc (numbers-apart vs (differ-tail v vs e) i j n q)
 
+-- and where this holds the numbers differ
 pub numbers-differ : (vs : List ℕ) → ((i j : ℕ) → i < length vs → j < length vs → getD vs i 0 ≢ 0 → getD vs i 0 ≡ getD vs j 0 → i ≡ j) → differ vs ≡ true
 numbers-differ [] h = refl
 numbers-differ (v ∷ vs) h =
@@ -132,6 +136,7 @@ numbers-differ (v ∷ vs) h =
 
 -- ---- a desk's numbers
 
+-- there is one for each slot, at the slot's index, and where a slot is replaced its number is too
 pub numbers-length : (d : List Slot) → length (numbersOf d) ≡ length d
 numbers-length d = length-map d numberAt
 
@@ -151,6 +156,7 @@ open-within d i n = subst (λ k. i < k) (numbers-length d) (number-within (numbe
 
 -- ---- the search in a desk
 
+-- the search passes at most every slot, and a slot where it ends holds the number
 pub place-at-most : (v : ℕ) (d : List Slot) → placeOf v d ≤ length d
 place-at-most v d = subst (λ k. placeOf v d ≤ k) (numbers-length d) (number-at-most v (numbersOf d))
 
@@ -190,6 +196,7 @@ place-not-after v d i e = go (ltb i (placeOf v d)) refl
 
 -- ---- open numbers differ
 
+-- where they differ, no two indices hold one number other than 0; and the other way round
 pub differ-apart : (d : List Slot) → differ (numbersOf d) ≡ true → (i j : ℕ) → numberAt (getD d i freeSlot) ≢ 0 → numberAt (getD d i freeSlot) ≡ numberAt (getD d j freeSlot) → i ≡ j
 differ-apart d e i j n q = numbers-apart (numbersOf d) e i j (λ z. n (sym (numbers-at d i) ∙ z)) (numbers-at d i ∙ q ∙ sym (numbers-at d j))
 
@@ -279,6 +286,7 @@ sound-at [] e i = free-sound
 sound-at (s ∷ d) e zero = and-left (slotSound s) (every slotSound d) e
 sound-at (s ∷ d) e (suc i) = sound-at d (and-right (slotSound s) (every slotSound d) e) i
 
+-- a sound desk has 32 slots, each of them sound, and open numbers that differ; and a desk with these three is sound
 pub desk-slots : (d : List Slot) → deskSound d ≡ true → length d ≡ slotCount
 unfolding deskSound
 desk-slots d e = eqb-true (length d) slotCount (and-left (eqb (length d) slotCount) (every slotSound d) (and-left (eqb (length d) slotCount && every slotSound d) (differ (numbersOf d)) e))

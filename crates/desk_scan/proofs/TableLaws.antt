@@ -27,6 +27,7 @@ abbrev pub standing : ℕ → ℕ → ℕ
 standing start i = cond (leb start i) i start
 
 module _ (x start : ℕ) (t : List ℕ) where
+  -- before the first entry all of it is left; an entry from the index on counts where it is the number; past the last entry none is left
   pub lookup-begins : listed x (drop start t) ≡ listed x (drop (standing start 0) t)
   lookup-begins = go (leb start 0) refl
     where

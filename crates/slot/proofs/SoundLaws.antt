@@ -48,6 +48,7 @@ module _ (s : Slot) where
   unfolding openSound
   open-tests = each-holds (headListed (s .head)) others
 
+  -- what each test says of a slot that is sound as an open one, one by one
   pub open-listed : openSound s ≡ true → headListed (s .head) ≡ true
   open-listed o = open-tests o .0
 
@@ -125,6 +126,7 @@ module _ (s : Slot) where
   unfolding isFree
   free-tests = each-holds (eqb (s .head .number) 0) zeros
 
+  -- number, last time and steps of a free slot are 0
   pub free-number : isFree s ≡ true → s .head .number ≡ 0
   free-number f = eqb-true _ _ (free-tests f .0)
 
@@ -170,6 +172,7 @@ module _ (s : Slot) where
       go (holds f) = free-room f
       go (fails f) = open-room (not-free-open e f)
 
+  -- and at most 64 steps are taken
   pub sound-steps : slotSound s ≡ true → s .steps ≤ 64
   sound-steps e = go (test (isFree s))
     where
