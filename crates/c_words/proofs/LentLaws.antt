@@ -42,6 +42,7 @@ lent-fits header ws h w = λ i. cond (eq-eqb header headerWord h i && w i) (ledg
 
 -- what the call behind answers, and what it leaves, as functions of the ledger that it gets: seen through the ledger handed on
 module _ (header : ℕ) (ws : List ℕ) where
+  -- the answer, of a call that refuses `noLedger` with 1: 254 for another header, 1 where the words do not fit, else its own to their ledger
   pub lent-answer : (f : Ledger → ℕ) → f noLedger ≡ 1 → headed header (f (lentLedger header ws)) ≡ answered header (wordsFit ws) (f (ledgerIn ws))
   unfolding lentLedger
   lent-answer f e = go (eqb header headerWord) (wordsFit ws)

@@ -52,6 +52,7 @@ rowStart k = wordsFirst + rowWords * k
 start-next : (k : ℕ) → rowStart (k + 1) ≡ rowStart k + rowWords
 start-next k = omega arith
 
+-- it stays so with a row more read, and past the last row all of them are read
 pub read-more :
     (ws : List ℕ) (rs : List TypeRow) (k : ℕ) →
     k < length rs →
@@ -79,6 +80,7 @@ put-cell ws at c l =
     ap (λ us. us ++ y ∷ []) (take-suc-set ws at x (omega arith)) ∙
     append-assoc (take at ws) (x ∷ []) (y ∷ [])
 
+-- a store of a cell leaves as many words
 pub put-length : (ws : List ℕ) (at : ℕ) (c : Cell) → length (putCell ws at c) ≡ length ws
 put-length ws at c = simp length-set
 
@@ -101,6 +103,7 @@ put-row ws at cs l =
     append-assoc (take at ws ++ cellWords (a ∷ [])) (cellWords (b ∷ [])) (cellWords (c ∷ [])) ∙
     append-assoc (take at ws) (cellWords (a ∷ [])) (cellWords (b ∷ c ∷ []))
 
+-- it stays so with a row more written, and past the last row all of them are written
 pub write-more :
     (ws : List ℕ) (rs : List TypeRow) (k : ℕ) →
     k < length rs →
@@ -121,6 +124,7 @@ write-ends ws rs k h g =
 
 -- ---- stores
 
+-- a list of length 0 is empty
 pub no-more : (xs : List ℕ) (n : ℕ) → length xs ≡ n → n ≡ 0 → xs ≡ []
 no-more [] n e z = refl
 no-more (x ∷ xs) n e z = absurd (omega (arith, e, z))

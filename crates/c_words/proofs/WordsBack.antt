@@ -72,6 +72,7 @@ module _ (l : Ledger) (f : Fitting l) where
         rows = (ap rowsOf (cells-back (cellsIn (l .rows))) ∙ rows-back (l .rows) (λ k b. f .shaped .levels-there k (omega (arith, b, f .shaped .rows-there)))) i;
       }
 
+  -- a ledger that fits words comes back from its words, and those fit
   pub words-back : (wordsFit (wordsOf l) ≡ true) × (ledgerIn (wordsOf l) ≡ l)
   words-back = (fits (wordsOf l) words-fit, ledger-back)
 
@@ -134,6 +135,7 @@ before-same (_ ∷ _ ∷ _ ∷ _ ∷ _ ∷ []) f = absurd (omega (arith, f .size
 before-same (_ ∷ _ ∷ _ ∷ _ ∷ _ ∷ _ ∷ []) f = absurd (omega (arith, f .size))
 before-same (a ∷ b ∷ c ∷ d ∷ e ∷ g ∷ h ∷ us) f = λ i. flag-same a (f .flag) i ∷ b ∷ c ∷ d ∷ e ∷ g ∷ h ∷ behind us (omega (arith, f .size)) i
 
+-- words that fit are the words of the ledger that they hold
 pub words-same : (ws : List ℕ) → wordsFit ws ≡ true → wordsOf (ledgerIn ws) ≡ ws
 words-same ws e = before-same ws (fit ws e)
 
@@ -141,6 +143,7 @@ words-same ws e = before-same ws (fit ws e)
 rest-length : (ws : List ℕ) → length ws ≡ ledgerWords → length (drop wordsFirst ws) ≡ rows * rowWords
 rest-length ws e = length-drop wordsFirst ws ∙ ap (λ n. n - wordsFirst) e
 
+-- 49 words hold a ledger with all its rows and levels, and words that fit one whose numbers fit too
 pub held-shaped : (ws : List ℕ) → length ws ≡ ledgerWords → Shaped (ledgerIn ws)
 unfolding ledgerIn
 held-shaped ws e =
