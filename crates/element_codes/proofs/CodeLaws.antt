@@ -36,6 +36,7 @@ module _ (x : ℕ) where
       go true f ih = absurd (true≢false f)
       go false f ih = ap suc (ih f)
 
+-- a listed code has one of the 62 rows, and another the row past the last
 pub listed-row : (code : ℕ) → elementListed code ≡ true → rowOf code < 62
 unfolding elementListed rowOf
 listed-row code e = let l = within code codes e in omega (arith, l, count)

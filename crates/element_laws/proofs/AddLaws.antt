@@ -57,6 +57,7 @@ module _ (t : Table) (s : List ℕ) (sound : soundTable t ≡ true) (size : leng
 
 -- all records, the refused ones passed over
 module _ (row : ℕ) where
+  -- from a sound table of 62 rows on, a row grows by what the accepted records tell of it
   pub rows-add :
       (st : FileState) (ss : List (List ℕ)) →
       soundTable (st .table) ≡ true →
@@ -100,5 +101,6 @@ refused-add st (s ∷ ss) = refused-add (takeRecord st s) ss ∙ go (eqb (answer
     go true = omega arith
     go false = omega arith
 
+-- the theorem: from a sound table of 62 rows on, each row grows by what the accepted records tell, and every refused one is counted
 pub accepted-records-add : (st : FileState) (ss : List (List ℕ)) → soundTable (st .table) ≡ true → length (st .table .rows) ≡ 62 → Adds st ss
 accepted-records-add st ss sound size = record { rows = λ row l. rows-add row st ss sound size; refused = refused-add st ss }

@@ -25,6 +25,7 @@ use Rattle.element_laws.proofs.Joining.{begun-held}
 start : Held (begun 2)
 start = begun-held 2 refl
 
+-- fed for 2 years, the two files turned are accepted and come to the same table
 pub fed-same : SameTable (begun 2) asFed asTurned
 fed-same =
     turned (begun 2) asFed (turned2 ∷ turned1 ∷ []) (start .sound) (start .size) fed-accepted
@@ -53,5 +54,6 @@ few (suc (suc row)) l =
 fed-joinable : Joinable 2 one other
 fed-joinable = record { first = first-alone; second = second-alone; apart = λ row l. few row l .0; room = λ row l. few row l .1 }
 
+-- fed one after the other for 2 years, the two files are accepted and come to the sums of their tables
 pub fed-joined : Joined 2 one other
 fed-joined = joining.joined 2 one other refl fed-joinable

@@ -55,6 +55,7 @@ pub record Held (t : Table) : Type 0 where
   pub sound : soundTable t ≡ true
   pub size : length (t .rows) ≡ 62
 
+-- a table that takes outages and stocks takes files
 pub ready-held : (t : Table) → Ready t → Held t
 ready-held t ready = record { sound = ready .sound; size = ready .size }
 
@@ -239,5 +240,6 @@ module _ (t : Table) (held : Held t) (fs : List (List ℕ)) where
   pub files-tell : AcceptedFiles t fs → Tells (seenAs (markAfter (t .seen) fs) t) (behindAll fs) (afterFiles t fs)
   files-tell accepted = let (all, each) = accepted-files t fs held accepted in filed t fs held all each .tells
 
+  -- and it takes files again
   pub files-held : AcceptedFiles t fs → Held (afterFiles t fs)
   files-held accepted = let (all, each) = accepted-files t fs held accepted in filed t fs held all each .held

@@ -126,6 +126,7 @@ module _ (period : ℕ) (fs gs : List (List ℕ)) (within : periodWithin period 
   both-tell : Tells (seenAs (markAfter (start .seen) (fs ++ gs)) start) (behindAll (fs ++ gs)) (tableOf period (fs ++ gs))
   both-tell = files-tell start held (fs ++ gs) both-accepted
 
+  -- the theorem: under a period of 1 to 50, files that are joinable are accepted one after the other and come to the sums
   pub joined : Joined period fs gs
   joined =
       record {

@@ -21,9 +21,11 @@ use Rattle.element_laws.specs.Turned.{after, Turned, none, both, swap as
 use Rattle.element_laws.specs.Join.{tableOf, rowIn}
 use Rattle.element_laws.specs.Needed.{outage, stock, year1, year2, turned1, turned2, asFed, asTurned, rowOne, rowTwo, afterSheets, sumIn, stocked, sheetFirst, sheetBehind, empty, only, tenPieces, twentyPieces, holding}
 
+-- the second two files are the first two turned
 pub fed-turned : Turned (year1 ∷ year2 ∷ []) (turned2 ∷ turned1 ∷ [])
 fed-turned = then exchange (both (after swap) (both (after swap) none))
 
+-- each file is read as the records that it was made of
 pub fed-records : (recordsOf (joined year1) ≡ year1) × (recordsOf (joined year2) ≡ year2)
 unfolding cutIn recordsOf
 fed-records = (refl, refl)
@@ -52,10 +54,12 @@ pub turned-same : SameTable (begun 2) asFed asTurned
 unfolding cutIn recordsOf stopIn stopFrom placeAt codes elementListed rowOf soundTable answerOf tableAfter takeRecord
 turned-same = record { accepted = turned-accepted; table = refl }
 
+-- the rows of codes 1, 2 and 3 after the two files: nothing was told of code 3
 pub fed-rows : (rowIn (tableOf 2 asFed) 0 ≡ rowOne) × (rowIn (tableOf 2 asFed) 1 ≡ rowTwo) × (rowIn (tableOf 2 asFed) 2 ≡ noRow)
 unfolding cutIn recordsOf stopIn stopFrom placeAt codes elementListed rowOf soundTable answerOf tableAfter takeRecord
 fed-rows = (refl, refl, refl)
 
+-- and so much the records after the sheets tell of these three
 pub fed-tallied : (tallied noRow 0 afterSheets ≡ rowOne) × (tallied noRow 1 afterSheets ≡ rowTwo) × (tallied noRow 2 afterSheets ≡ noRow)
 unfolding codes rowOf
 fed-tallied = (refl, refl, refl)
@@ -73,6 +77,7 @@ pub join-sums : (sumIn 0 ≡ rowOne) × (sumIn 1 ≡ rowTwo) × (sumIn 2 ≡ noR
 unfolding cutIn recordsOf stopIn stopFrom placeAt codes elementListed rowOf soundTable answerOf tableAfter takeRecord
 join-sums = (refl, refl, refl)
 
+-- a stock told twice in a file: in both orders one record is refused, and another amount stays
 pub twice-turned : Turned (stocked 10 20 ∷ []) (stocked 20 10 ∷ [])
 twice-turned = both (after swap) none
 
@@ -84,6 +89,7 @@ pub twice-differs :
 unfolding cutIn recordsOf stopIn stopFrom placeAt codes elementListed rowOf soundTable answerOf tableAfter takeRecord
 twice-differs = (refl, refl, refl, refl)
 
+-- the sheet moved behind an outage: the outage is refused 5 and not counted, and with the sheet first it is counted
 pub sheet-moved :
     (afterFile (begun 1) sheetFirst .refused ≡ 0) ×
     (rowIn (tableOf 1 (sheetFirst ∷ [])) 0 .outages ≡ 1) ×
@@ -93,6 +99,7 @@ pub sheet-moved :
 unfolding cutIn recordsOf stopIn stopFrom placeAt codes elementListed rowOf soundTable answerOf tableAfter takeRecord
 sheet-moved = (refl, refl, refl, refl, refl)
 
+-- a file without a record, whole and with nothing refused: the mark is set where it is fed first, and cleared where it is fed last
 pub empty-turned : Turned (empty ∷ only ∷ []) (only ∷ empty ∷ [])
 empty-turned = exchange
 
@@ -104,6 +111,7 @@ pub empty-differs :
 unfolding cutIn recordsOf stopIn stopFrom placeAt codes elementListed rowOf soundTable answerOf tableAfter takeRecord
 empty-differs = (refl, refl, refl, refl)
 
+-- a stocked code that is shared: each file is accepted alone, and after the first one the stock of the second is refused 5
 pub each-stocks : AcceptedFiles (begun 1) (tenPieces ∷ []) × AcceptedFiles (begun 1) (twentyPieces ∷ [])
 unfolding cutIn recordsOf stopIn stopFrom placeAt codes elementListed rowOf soundTable answerOf tableAfter takeRecord
 each-stocks = (
@@ -129,6 +137,7 @@ pub periods-differ :
 unfolding cutIn recordsOf stopIn stopFrom placeAt codes elementListed rowOf soundTable answerOf tableAfter takeRecord
 periods-differ = (refl, refl, refl, refl, refl)
 
+-- a sound table with 65,535 outages of an element: one more is refused 15, and with 65,534 it is accepted
 pub full-refused :
     (soundTable (holding 65535) ≡ true) ×
     (answerOf (holding 65535) (outage 1 100 160) ≡ 15) ×

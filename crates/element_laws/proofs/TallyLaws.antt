@@ -77,6 +77,7 @@ one r row s =
       amount = r .amount + amountOf row s;
     }
 
+-- what one record tells and then what others tell is what all of them tell
 pub one-more : (r : Row) (row : ℕ) (s : List ℕ) (ss : List (List ℕ)) → tallied (one r row s) row ss ≡ tallied r row (s ∷ ss)
 one-more r row s ss = same-row _ _ (omega arith) (omega arith) (omega arith) (omega arith)
 
@@ -197,6 +198,7 @@ module _ (t : Table) (s : List ℕ) (ready : Ready t) where
         other-rows t s row (λ same. e (sym same)) ∙
         rw (o, n) (same-row (rowOr (t .rows) row) _ (sym (add-zero _)) (sym (add-zero _)) (sym (add-zero _)) (sym (add-zero _)))
 
+    -- each row is the one before with what the record tells of it
     pub grown : (row : ℕ) → rowOr (tableAfter t s .rows) row ≡ one (rowOr (t .rows) row) row s
     grown row = grown-at row (speaks row s (fit .kind))
 
@@ -321,12 +323,14 @@ module _ (t : Table) (ss : List (List ℕ)) (ready : Ready t) where
 
 -- records one after the other: what is asked of all is asked of the first ones, and of the others at the table after those
 module _ (t u : Table) (ss ts : List (List ℕ)) (tells : Tells t ss u) where
+  -- a row's outages after the first ones are those before and theirs; so is whether its stock is told, where that is at most once
   pub outages-then : (row : ℕ) → row < 62 → rowOr (u .rows) row .outages ≡ rowOr (t .rows) row .outages + total (outagesOf row) ss
   outages-then row l = ap (λ (r : Row). r .outages) (tells .rows row l)
 
   pub told-then : (row : ℕ) → row < 62 → told (rowOr (t .rows) row) + total (stocksOf row) ss ≤ 1 → told (rowOr (u .rows) row) ≡ told (rowOr (t .rows) row) + total (stocksOf row) ss
   told-then row l few = ap told (tells .rows row l) ∙ marks-grow row (rowOr (t .rows) row .stock) ss few
 
+  -- where it holds of the first ones, and of the others at the table after those, it holds of all; and back
   pub each-both : Each t ss → Each u ts → Each t (ss ++ ts)
   each-both first rest =
       record {
@@ -343,6 +347,7 @@ module _ (t u : Table) (ss ts : List (List ℕ)) (tells : Tells t ss u) where
         room = λ row l. omega (arith, both .room row l, outages-then row l, sum-append (outagesOf row) ss ts);
       }
 
+  -- a row that has what the first ones and then what the others tell has what all of them tell
   pub rows-both :
       (v : Table) →
       ((row : ℕ) → row < 62 → rowOr (v .rows) row ≡ tallied (rowOr (u .rows) row) row ts) →
@@ -357,6 +362,7 @@ module _ (t u : Table) (ss ts : List (List ℕ)) (tells : Tells t ss u) where
       (omega (arith, sum-append (stockOf row) ss ts))
       (omega (arith, sum-append (amountOf row) ss ts))
 
+-- what is asked of all holds of the first ones
 pub each-front : (t : Table) (ss ts : List (List ℕ)) → Each t (ss ++ ts) → Each t ss
 each-front t ss ts both =
     record {

@@ -173,6 +173,7 @@ module _
     same-after : SameTable t fs (filesOf gs)
     same-after = record { accepted = turned-accepted; table = turned-table }
 
+-- the theorem: files that are accepted at a sound table of 62 rows are accepted too where they are turned, and come to the same table
 pub turned :
     (t : Table) (fs : List (List ℕ)) (gs : List (List (List ℕ))) →
     soundTable t ≡ true →

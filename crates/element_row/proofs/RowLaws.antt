@@ -12,6 +12,7 @@ use Rattle.base.proofs.ChainLaws.{each-holds}
 use Rattle.element_row.specs.declared.Row.{Row}
 use Rattle.element_row.specs.Row.{rowWithin, RowSound}
 
+-- the test of a row passes exactly where the row is within each of its bounds
 pub row-exactly : (r : Row) → (rowWithin r ≡ true) ↔ RowSound r
 row-exactly r = (there, back)
   where

@@ -28,6 +28,7 @@ module _ (t : Table) (s : List ℕ) where
   unfolding answerOf
   clear-accepted c = unclear (rules t s) c
 
+  -- an accepted record is a year sheet, an element outage or a stock
   pub accepted-kind : answerOf t s ≡ 0 → (kindOf s ≡ 1) ⊎ ((kindOf s ≡ 4) ⊎ (kindOf s ≡ 5))
   accepted-kind a = kind-taken (kindOf s) (clear-at (rules t s) (accepted-clear a) 3)
 
@@ -40,6 +41,7 @@ module _ (t : Table) (s : List ℕ) where
         ap (λ b. cond (not b) 2 (first (rulesAt (kindOf s) s t))) whole ∙
         ap (λ k. first (rulesAt k s t)) k
 
+    -- the answer is the first of the rules left for its kind
     pub sheet-answered : kindOf s ≡ 1 → answerOf t s ≡ sheetAnswer (t .seen) s
     sheet-answered = by-kind 1
 

@@ -26,10 +26,12 @@ use Rattle.element_table.proofs.BoundLaws.{period-within, period-outsid
 use Rattle.element_table.proofs.AnswerLaws.{rules-rise, accepted-clear, clear-accepted, begins, begins-none, file-begins, file-refused}
 
 module _ (t : Table) (s : List ℕ) where
+  -- n is answered exactly where what n stands for applies and no rule before it does, and 0 exactly where no rule applies
   pub exactly : (n : ℕ) → (answerOf t s ≡ n) ↔ Foremost n (rules t s)
   unfolding answerOf
   exactly n = exactly-then n (rules t s) (rules-rise t s)
 
+  -- every answer is one of these numbers
   pub exactly-no-other : listed (answerOf t s) (0 ∷ 1 ∷ 2 ∷ 3 ∷ 4 ∷ 5 ∷ 6 ∷ 7 ∷ 10 ∷ 15 ∷ []) ≡ true
   unfolding answerOf
   exactly-no-other = first-listed (rules t s)
@@ -46,6 +48,7 @@ module _ (t : Table) (s : List ℕ) where
         subst (λ j. NoRule (rulesAt j s t)) k (clear-at (rulesAt (kindOf s) s t) (c .1 .1)),
       )
 
+  -- a sheet, an outage and a stock are each accepted exactly where the facts named for it hold, and nothing else is asked of it
   pub exactly-sheet : kindOf s ≡ 1 → (answerOf t s ≡ 0) ↔ SheetRight t s
   exactly-sheet k = (there, back)
     where

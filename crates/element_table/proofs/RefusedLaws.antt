@@ -132,7 +132,7 @@ module _ (t : Table) (s : List ℕ) where
         let e = outage-row k a in
         (ap (λ (r : Row). r .outages) e, ap (λ (r : Row). r .minutes) e, ap (λ (r : Row). r .stock) e, ap (λ (r : Row). r .amount) e)
 
-    -- a stock is told in the row of its element, where none was: pieces are seenAs 1, a line 2
+    -- a stock is told in the row of its element, where none was: pieces are marked 1, a line 2
     pub stock-row : kindOf s ≡ 5 → answerOf t s ≡ 0 → rowNamed (tableAfter t s) s ≡ withStock (rowNamed t s) (unitIn s) (amountIn s)
     stock-row k a =
         let known = exactly-stock t s k .0 a .listed in

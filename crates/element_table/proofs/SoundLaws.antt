@@ -1,4 +1,4 @@
--- *Sound stays sound* (02, K1): an accepted outage adds one outage, where there were fewer than 65,535, and at most 600,000 minutes; a stock is seenAs 1
+-- *Sound stays sound* (02, K1): an accepted outage adds one outage, where there were fewer than 65,535, and at most 600,000 minutes; a stock is marked 1
 -- or 2. So a sound table stays sound whatever record it is given, and as files are begun. Assumes nothing.
 use Prim.Native.Nat.{ℕ, _-_}
 use mathlib.Core.Path.{_≡_, refl, sym, ap, _∙_}
@@ -52,7 +52,7 @@ module _ (t : Table) (s : List ℕ) where
         amount = r .amount;
       }
 
-  -- an accepted stock is seenAs 1 or 2
+  -- an accepted stock is marked 1 or 2
   stock-sound : RowSound (rowNamed t s) → kindOf s ≡ 5 → answerOf t s ≡ 0 → RowSound (withStock (rowNamed t s) (unitIn s) (amountIn s))
   stock-sound r k a =
       record {
@@ -62,6 +62,7 @@ module _ (t : Table) (s : List ℕ) where
         amount = λ z. absurd (omega arith);
       }
 
+  -- a sound table is sound after any record, accepted or refused
   pub sound-stays-sound : soundTable t ≡ true → soundTable (tableAfter t s) ≡ true
   sound-stays-sound e =
       let named = sound-row t e (rowOf (codeIn s)) in
