@@ -19,5 +19,6 @@ before-record n st s =
     let e : n + (st .refused + one) ≡ n + st .refused + one = omega arith in
     λ i. record { table = takeRecord st s .table; refused = e i }
 
+-- with so many refused before, records come to the same table and so many refused more
 pub before-all : (n : ℕ) (st : FileState) (ss : List (List ℕ)) → takeAll (refusedBefore n st) ss ≡ refusedBefore n (takeAll st ss)
 before-all n st ss = sym (all-forget takeRecord takeRecord (refusedBefore n) (before-record n) st ss)

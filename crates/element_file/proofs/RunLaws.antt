@@ -36,10 +36,12 @@ refusedIn st = st .refused
 abbrev pub answerIn : FileState → List ℕ → ℕ
 answerIn st s = answerOf (st .table) s
 
+-- a record counts as one refused more where its answer is not 0, and else as none
 pub refused-counted : (st : FileState) (s : List ℕ) → refusedIn (takeRecord st s) ≡ refusedIn st + oneIfRefused (answerIn st s)
 unfolding takeRecord
 refused-counted st s = refl
 
+-- no more records are refused than there are bytes
 pub refused-below : (t : Table) (bytes : List ℕ) → afterRecords t bytes .refused ≤ length bytes
 refused-below t bytes = omega (arith, all.refused-below takeRecord refusedIn answerIn refused-counted (starting t) bytes)
 
@@ -111,12 +113,14 @@ module _ (t : Table) (file : List ℕ) where
   unfolding fileOf
   file-through s = rw s
 
+  -- a sound table is sound after any file, whole or broken
   pub reading-sound : soundTable t ≡ true → soundTable (fileOf t file .table) ≡ true
   reading-sound s =
       ap (λ (r : Reading). soundTable (r .table)) (file-through s) ∙
       run-sound (starting (seenAs false t)) (recordsOf file) (marked-sound t false ∙ s)
 
   module _ (run : Pass) (ran : run ≡ passOf (seenAs false t) file) where
+    -- no more records of the file are refused than it has bytes
     pub few-refused : run .refused ≤ length file
     few-refused = subst⁻¹ (λ (r : Pass). r .refused ≤ length file) ran (refused-below (seenAs false t) file)
 
@@ -129,6 +133,7 @@ module _ (t : Table) (file : List ℕ) where
           let same : b ≡ isBroken file = sym (broken-here ∙ e) in
           (λ i. record { answer = 0; table = ran i .table; refused = ran i .refused + cond (same i) 1 0; broken = same i }) ∙ sym (file-through s)
 
+      -- what is told of the file after its run: a broken length is one refusal more, and else nothing is added
       pub file-broken : run .which ≡ 2 → record { answer = 0; table = run .table; refused = run .refused + 1; broken = true } ≡ fileOf t file
       file-broken two = by-run true (eq-eqb (run .which) 2 two)
 

@@ -38,6 +38,7 @@ module _ (t : Table) (r : Flowed) (e : r ≡ begunOf t) where
         subst⁻¹ (λ (x : Flowed). Arrived takeRecord (starting (seenAs false t)) (readingOf (x .flow)) b 0) e
         (record { pieces = []; holds = begun-holding t b table-sound .1; few = omega arith })
 
+    -- where pieces came in at most 2^40 turns, the end of the inflow is what some bytes come to, read as one file
     pub arrived-whole :
         (f : Inflow) (b : List ℕ) →
         Arrived takeRecord (starting (seenAs false t)) (readingOf f) b mostTurns →

@@ -21,6 +21,7 @@ use Rattle.text.proofs.TextLaws.{pushed-all-append, all-fits, number-length}
 use Rattle.element_line.specs.Listing.{fractionText, sixText, pieceWord, hundredWord, perText, lineText, lineOf, headingText}
 
 module _ (t : Table) (code : ℕ) (name : List ℕ) where
+  -- 1 for an unsound table, then 7 for an unknown code, without text; else 0 and the line's bytes pushed
   pub unsound-no-line : soundTable t ≡ false → lineOf t code name ≡ record { answer = 1; text = textOf [] }
   unfolding lineOf
   unsound-no-line e = rw e refl
@@ -75,6 +76,7 @@ per-length stock = go (test (eqb stock 0)) (test (eqb stock 2))
 
 -- so no byte of a line is dropped
 module _ (t : Table) (code : ℕ) (name : List ℕ) (short : length name ≤ 100) where
+  -- a line has at most 290 bytes, and of a sound table and a known code its text is all of them
   pub line-length : length (lineText t code name) ≤ 290
   line-length =
       let c : length (numberText code) ≤ 20 = number-length code in
@@ -91,5 +93,6 @@ module _ (t : Table) (code : ℕ) (name : List ℕ) (short : length name ≤ 100
       let h = line-length in
       known-line t code name e f ∙ ap (λ (s : Text). record { answer = 0; text = s }) (all-fits (lineText t code name) (omega (arith, h)))
 
+-- no byte of the heading is dropped either
 pub heading-fits : pushedAll (textOf []) headingText ≡ textOf headingText
 heading-fits = all-fits headingText (omega arith)

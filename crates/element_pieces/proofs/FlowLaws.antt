@@ -24,6 +24,7 @@ module _ (f : Inflow) (b : List ℕ) (filled : ℕ) where
   abbrev pub Comes : Flowed → List ℕ → Type 0
   Comes r b₁ = (r ≡ flowedOf f b filled) × (b₁ ≡ bufferAfter f b filled)
 
+  -- a piece that is refused: its number is answered, and inflow and buffer are as they were
   pub flow-refused : (flowAnswer f b filled ≡ 0 → ⊥) → Comes (record { answer = flowAnswer f b filled; flow = f }) b
   unfolding flowedOf bufferAfter
   flow-refused z = let u = ne-eqb (flowAnswer f b filled) 0 z in (sym (rw u), sym (rw u))
@@ -34,6 +35,7 @@ module _ (f : Inflow) (b : List ℕ) (filled : ℕ) where
     unfolding flowedOf bufferAfter
     flowed-on = (sym (rw a), sym (rw a))
 
+    -- where no record can follow what is held, nothing is taken: inflow and buffer are as they were
     pub flow-over : f .dead ≡ true → Comes (record { answer = 0; flow = f }) b
     flow-over d =
         let e = on-dead takeRecord (readingOf f) b filled d in
@@ -52,6 +54,7 @@ module _ (f : Inflow) (b : List ℕ) (filled : ℕ) where
     pub buffer-long : filled ≤ length b
     buffer-long = clear-piece .2
 
+    -- no more records of the piece are refused than the buffer has bytes
     pub refused-of-piece : afterRecords (f .table) (take filled b) .refused ≤ length b
     refused-of-piece = omega (arith, refused-below (f .table) (take filled b), length-take filled b)
 
@@ -61,6 +64,7 @@ module _ (f : Inflow) (b : List ℕ) (filled : ℕ) where
         (λ i. takeAll (record { table = f .table; refused = sym (add-zero (f .refused)) i }) (recordsOf (take filled b))) ∙
         before-all (f .refused) (starting (f .table)) (recordsOf (take filled b))
 
+    -- where a record can follow, those in the piece are taken, the refused counted to those before, and what is left over moved to the front
     pub flow-taken :
         f .dead ≡ false →
         Comes

@@ -110,6 +110,7 @@ module _
     table-whole : soundTable t ≡ true → soundTable (f .table) ≡ true
     table-whole s = ap (λ (st : FileState). soundTable (st .table)) state-whole ∙ run-sound (starting (seenAs false t)) (recordsOf (joined ps)) (marked-sound t false ∙ s)
 
+    -- where the table was sound and at most 2^62 records were refused, the outcome is that of the whole file in one call
     pub finish-whole : f .refused ≤ mostRefused → soundTable t ≡ true → finishedOf f ≡ fileOf t (joined ps)
     finish-whole few s =
         finish-either (isBroken (joined ps)) (held-whole takeRecord (starting (seenAs false t)) ps (readingOf f) b h .1)

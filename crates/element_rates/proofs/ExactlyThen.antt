@@ -95,6 +95,7 @@ module _ (t : Table) (code : ℕ) where
   abbrev row : Row
   row = rowAt t code
 
+  -- a rate: 1 of an unsound table, 7 of a code not listed, 17 without stock or with an amount of 0, else a fraction; and no other number
   pub rate-exactly-1 : (rateOf t code ≡ Refused 1) ↔ (soundTable t ≡ false)
   rate-exactly-1 = rate .at-1
 
@@ -116,6 +117,7 @@ module _ (t : Table) (code : ℕ) where
   pub rate-no-other : (n : ℕ) → rateOf t code ≡ Refused n → listed n numbers ≡ true
   rate-no-other = rate .at-no-other
 
+  -- a mean: the same, but 17 where there is no outage
   pub mean-exactly-1 : (meanOf t code ≡ Refused 1) ↔ (soundTable t ≡ false)
   mean-exactly-1 = mean .at-1
 

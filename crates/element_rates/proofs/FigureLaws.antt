@@ -32,6 +32,7 @@ module _ (t : Table) (code : ℕ) where
   abbrev pub meanIn : Fraction
   meanIn = lowestOf (rowAt t code .minutes) (60 * rowAt t code .outages)
 
+  -- a rate and a mean are such figures, by soundness, the list of codes, and whether what they divide by is 0
   pub rate-is : rateOf t code ≡ figure (soundTable t) (elementListed code) rateBy0 rateIn
   unfolding rateOf
   rate-is = refl
@@ -40,6 +41,7 @@ module _ (t : Table) (code : ℕ) where
   unfolding meanOf
   mean-is = refl
 
+  -- so each of the four ways by itself
   pub unsound-refused : soundTable t ≡ false → (rateOf t code ≡ Refused 1) × (meanOf t code ≡ Refused 1)
   unfolding rateOf meanOf
   unsound-refused s = (rw s, rw s)

@@ -11,6 +11,7 @@ use Rattle.element_rates.specs.Rates.{rateOf, meanOf, shownFigure, shown
 use Rattle.element_rates.proofs.RateLaws.{rate-lowest, mean-lowest}
 
 module _ (t : Table) (code digits : ℕ) where
+  -- a refused rate or mean is shown as the same refusal, whatever the digits
   pub shown-rate-refused : (n : ℕ) → rateOf t code ≡ Refused n → shownRate t code digits ≡ shown.Refused n
   unfolding shownRate
   shown-rate-refused n e = ap (λ a. shownFigure a digits) e
@@ -20,6 +21,7 @@ module _ (t : Table) (code digits : ℕ) where
   shown-mean-refused n e = ap (λ a. shownFigure a digits) e
 
   module _ (f : Fraction) where
+    -- a fraction is refused with 18 for more than 6 digits, and else shown as its decimal with so many
     pub shown-rate-18 : rateOf t code ≡ Is f → 6 < digits → shownRate t code digits ≡ shown.Refused 18
     unfolding shownRate
     shown-rate-18 e many = ap (λ a. shownFigure a digits) e ∙ too-many-18 f digits (rate-lowest t code f e .exists) many

@@ -7,6 +7,7 @@ use Rattle.element_table.specs.Table.{soundTable}
 use Rattle.element_rates.specs.Rates.{rateOf, meanOf, shownRate, shownMean}
 use Rattle.element_rates.specs.Worked.{figures, decimals, divided, refused, Right}
 
+-- every case comes out as it is said: the fractions, their decimals, what divides by 0, and which refusal is foremost
 pub figures-right : Right figures
 unfolding euclid gcdOf lowestOf codes elementListed rowOf soundTable rateOf meanOf
 figures-right = (refl, (refl, (refl, (refl, tt))))
