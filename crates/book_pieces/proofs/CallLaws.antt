@@ -21,6 +21,7 @@ use Rattle.book_pieces.proofs.LinkLaws.{finish-whole, count-fits, map-w
 abbrev pub reading : Lent → Held BookState
 reading x = readingOf (x .feed) (x .map)
 
+-- a call that is answered 0 takes the reading on, and tells no more bytes than the buffer has
 pub goes-on : GoesOn takeRecord taker reading
 goes-on =
     record {

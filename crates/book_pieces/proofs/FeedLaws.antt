@@ -26,6 +26,7 @@ module _ (f : Feed) (m b : List ℕ) (filled : ℕ) where
   abbrev pub Comes : Fed → List ℕ → List ℕ → Type 0
   Comes r m₁ b₁ = (r ≡ fedOf f m b filled) × (m₁ ≡ mapFed f m b filled) × (b₁ ≡ bufferFed f m b filled)
 
+  -- a piece that is refused leaves the feed, the map and the buffer as they were
   pub feed-refused : (fedAnswer f m b filled ≡ 0 → ⊥) → Comes (record { answer = fedAnswer f m b filled; feed = f }) m b
   unfolding fedOf mapFed bufferFed
   feed-refused z = let u = ne-eqb (fedAnswer f m b filled) 0 z in (sym (rw u), sym (rw u), sym (rw u))
@@ -37,6 +38,7 @@ module _ (f : Feed) (m b : List ℕ) (filled : ℕ) where
     unfolding fedOf mapFed bufferFed
     fed-on = (sym (rw a), sym (rw a), sym (rw a))
 
+    -- where no record can follow what is held, the feed, the map and the buffer stay as they were
     pub feed-over : f .dead ≡ true → Comes (record { answer = 0; feed = f }) m b
     feed-over d =
         let e = on-dead takeRecord (readingOf f m) b filled d in (
@@ -49,6 +51,7 @@ module _ (f : Feed) (m b : List ℕ) (filled : ℕ) where
     clear-piece : (eqb (length m) 8192 && soundLedger (f .ledger)) ≡ true × (f .refused ≤ mostRefused) × (filled ≤ length b)
     clear-piece = piece-clear (eqb (length m) 8192 && soundLedger (f .ledger)) (f .refused) (length b) filled a
 
+    -- where a piece is not refused: the map has its size, the ledger is sound, the refused are few enough, the bytes told are in the buffer
     pub map-long : length m ≡ 8192
     map-long = eqb-true (length m) 8192 (and-left (eqb (length m) 8192) (soundLedger (f .ledger)) (clear-piece .0))
 
@@ -61,6 +64,7 @@ module _ (f : Feed) (m b : List ℕ) (filled : ℕ) where
     pub buffer-long : filled ≤ length b
     buffer-long = clear-piece .2
 
+    -- and no more of its records are refused than the buffer has bytes
     pub refused-of-piece : afterBook (f .ledger) m (take filled b) .refused ≤ length b
     refused-of-piece = omega (arith, refused-below (f .ledger) m (take filled b), length-take filled b)
 
@@ -70,6 +74,7 @@ module _ (f : Feed) (m b : List ℕ) (filled : ℕ) where
         (λ i. takeAll (record { ledger = f .ledger; map = m; refused = sym (add-zero (f .refused)) i }) (recordsOf (take filled b))) ∙
         before-all (f .refused) (starting (f .ledger) m) (recordsOf (take filled b))
 
+    -- where a record can follow, the records of the bytes told are taken, and what is left over stands at the buffer's front
     pub feed-taken :
         f .dead ≡ false →
         Comes

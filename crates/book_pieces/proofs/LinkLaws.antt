@@ -41,7 +41,7 @@ module _ (f : Feed) (m b : List ℕ) (filled : ℕ) (u : fedAnswer f m b filled 
       coe 0 1 (i. Holding takeRecord (readingOf (e .0 i .feed) (e .1 i)) (e .2 i) (fed takeRecord p (drop (f .held) (take filled b))))
       (held-on takeRecord (readingOf f m) b filled p h within (buffer-long f m b filled u))
 
-  -- where no record could not follow before nor can now, fewer than 65,535 bytes are held
+  -- where a record could follow before and still can, fewer than 65,535 bytes are held
   pub feed-has-room :
       ((i : ℕ) → getD b i 0 < 256) → f .dead ≡ false → fedOf f m b filled .feed .dead ≡ false → fedOf f m b filled .feed .held < 65535
   feed-has-room bytes d after =
@@ -95,6 +95,7 @@ module _
         ap (λ (st : BookState). soundLedger (st .ledger)) state-whole ∙
         sound-run (starting l m) (recordsOf (joined ps)) (not-false (soundLedger l) (or-right (not (eqb (length m) 8192)) (not (soundLedger l)) u))
 
+    -- begun from a sound ledger and a map of its size, and with at most 2^62 refused, the feed ends as the reading of the whole book does
     pub finish-whole : f .refused ≤ mostRefused → unsound l m ≡ false → finishedOf f ≡ readOf l m (joined ps)
     finish-whole few u =
         finish-either (isBroken (joined ps)) (held-whole takeRecord (starting l m) ps (readingOf f m₁) b h .1)
@@ -108,6 +109,7 @@ module _
         let same : f .refused ≡ afterBook l m (joined ps) .refused = ap (λ (st : BookState). st .refused) state-whole in
         omega (arith, refused-below l m (joined ps))
 
+    -- and the map is the one after the whole book
     pub map-whole : m₁ ≡ afterBook l m (joined ps) .map
     map-whole = ap (λ (st : BookState). st .map) state-whole
 

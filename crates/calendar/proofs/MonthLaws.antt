@@ -99,6 +99,7 @@ module _ (ns : List ℕ) (m d : ℕ) where
 
 -- the sum of the days before a month, of which k are left at the m-th (from 0)
 module _ (ns : List ℕ) (m k : ℕ) where
+  -- 0 where no month is left to add, the m-th month's days and the rest where one is, and 0 past the last month
   pub up-to-here : k ≤ 1 → daysUpTo (drop m ns) k ≡ 0
   up-to-here h = go (drop m ns)
     where
@@ -120,10 +121,12 @@ pub record Dated (year d₀ month d : ℕ) : Type 0 where
   pub month-left : monthIn (months year) d₀ + 1 ≡ month + monthIn (drop (month - 1) (months year)) d
   pub day-left : dayIn (months year) d₀ ≡ dayIn (drop (month - 1) (months year)) d
 
+-- the search begins at January with all the days
 pub dated-begins : (year d₀ : ℕ) → Dated year d₀ 1 d₀
 dated-begins year d₀ = record { from = omega arith; to = omega arith; less = omega arith; month-left = omega arith; day-left = refl }
 
 module _ (year d₀ month d : ℕ) (h : Dated year d₀ month d) where
+  -- past a month that has no more days than are left it goes on to the next one, with those days fewer
   pub dated-on : month ≤ 12 → daysIn year month ≤ d → Dated year d₀ (month + 1) (d - daysIn year month)
   dated-on k l =
       let f : 1 ≤ month = h .from in
@@ -173,6 +176,7 @@ pub record Summed (year month m days : ℕ) : Type 0 where
   pub few : days + 31 ≤ 31 * m
   pub left : daysBefore year month ≡ days + daysUpTo (drop (m - 1) (months year)) (month - (m - 1))
 
+-- the sum begins at January with no day
 pub summed-begins : (year month : ℕ) → Summed year month 1 0
 unfolding daysBefore
 summed-begins year month =
@@ -180,6 +184,7 @@ summed-begins year month =
     record { from = omega arith; to = omega arith; few = omega arith; left = rw e (omega arith) }
 
 module _ (year month m days : ℕ) (h : Summed year month m days) where
+  -- past a month before the one asked for it goes on to the next one, with the days of that month more
   pub summed-on : m ≤ 12 → m < month → Summed year month (m + 1) (days + daysIn year m)
   summed-on k l =
       let g : 1 ≤ m = h .from in
@@ -193,6 +198,7 @@ module _ (year month m days : ℕ) (h : Summed year month m days) where
         left = rw (e, f, n) (omega (arith, h .left, up-to-past (months year) (m - 1) (month - (m - 1)) (omega arith) (omega arith)));
       }
 
+  -- at the month asked for or past it, and past December, it is the days before that month
   pub summed-here : month ≤ m → days ≡ daysBefore year month
   summed-here k = omega (arith, h .left, up-to-here (months year) (m - 1) (month - (m - 1)) (omega arith))
 
@@ -204,6 +210,7 @@ abbrev pub daysOf : List ℕ → ℕ
 daysOf [] = 0
 daysOf (n ∷ ns) = n + daysOf ns
 
+-- the days before the m-th month (from 0) and in it are no more than those of all months
 pub up-to-with : (ns : List ℕ) (m : ℕ) → daysUpTo ns (suc m) + getD ns m 0 ≤ daysOf ns
 up-to-with [] m = omega arith
 up-to-with (n ∷ ns) zero = omega arith
@@ -227,6 +234,7 @@ year-few : (t : Bool) → cond t 366 365 ≤ 366
 year-few true = omega arith
 year-few false = omega arith
 
+-- no month has more than 366 days of its year before it
 pub before-at-most : (year month : ℕ) → daysBefore year month ≤ 366
 unfolding daysBefore
 before-at-most year month = omega (arith, up-to-few (months year) month, year-days year, year-few (eqb (year % 4) 0))

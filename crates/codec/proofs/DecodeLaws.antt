@@ -26,6 +26,7 @@ use Rattle.codec.specs.Fits.{Fours, HeadInBytes, StepInBytes}
 low : (n : ℕ) → n % 256 < 256
 low n = omega arith
 
+-- what is written for numbers, for a frame and for a head is numbers below 256, whatever is written
 pub two-bytes : (n : ℕ) → Bytes (le2 n)
 two-bytes n = (low n, (low (n / 256), tt))
 
@@ -179,6 +180,7 @@ module _ (h : Head) (ss : List Step) where
   pub stepped-back : All StepInBytes ss → stepsIn (eventRecord h ss) ≡ ss
   stepped-back fits = steps-behind front (fourEach (stepNumbers ss)) (length ss) 0 ∙ steps-back ss fits
 
+  -- a stepped event of fewer than 256 steps is written in numbers below 256
   pub stepped-bytes : length ss < 256 → Bytes (eventRecord h ss)
   stepped-bytes few =
       let rest : List ℕ = length ss ∷ fourEach (stepNumbers ss) in

@@ -83,6 +83,7 @@ step-numbers s (suc n) at =
     (λ i. le32 s at ∷ le32 s (at + 4) ∷ le32 s (e1 i) ∷ le32 s (e2 i) ∷ (step-numbers s n (at + 16) ∙ ap (foursFrom s (4 * n)) e3) i) ∙
     ap (λ k. foursFrom s k at) (sym four)
 
+-- as many steps are read as are asked for
 pub steps-many : (s : List ℕ) (n at : ℕ) → length (stepsFrom s n at) ≡ n
 steps-many s zero at = refl
 steps-many s (suc n) at = ap suc (steps-many s n (at + 16))
@@ -99,6 +100,7 @@ module _ (s : List ℕ) (b : Bytes s) where
       ∙ ap (λ (l : List ℕ). le2 (le16 s 4) ++ l) (one-again s b 6 (omega arith))
       ∙ two-again s b 4 (omega arith)
 
+  -- a record with its own length and the length of its kind is what its fields are written as
   pub sheet-again : le16 s 0 ≡ length s → le16 s 2 ≡ 1 → length s ≡ 18 → sheetRecord (le16 s 4) (foursFrom s 3 6) ≡ s
   sheet-again stated kind l =
       let n : 18 ≡ le16 s 0 = omega arith in

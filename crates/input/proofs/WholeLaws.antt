@@ -26,6 +26,7 @@ empty-sound : unsound emptyLedger zeros ≡ false
 unfolding soundLedger
 empty-sound = λ i. not (eq-eqb (length zeros) mapSize (length-replicate {A = ℕ} mapSize 0) i) || not true
 
+-- a feed from the empty ledger and map, after at most 2^40 turns, ends as the reading of some bytes as one book does
 pub arrived-whole :
     (f : Feed) (m b : List ℕ) →
     Arrived takeRecord (starting emptyLedger zeros) (readingOf f m) b mostTurns →

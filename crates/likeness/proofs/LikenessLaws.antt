@@ -27,21 +27,26 @@ module _ (s w : List ℕ) (i : ℕ) where
   alike-step : i < length s → i < length w → beginsAlike (drop i s) (drop i w) ≡ (eqb (lowered (getD s i 0)) (getD w i 0) && beginsAlike (drop (i + 1) s) (drop (i + 1) w))
   alike-step h g = rw (add-one i, drop-cons s i 0 h, drop-cons w i 0 g) refl
 
+  -- where the line's byte at a place, made small, is not the word's, the rest of the line from there does not begin with the rest of the word
   pub alike-parts : i < length s → i < length w → (lowered (getD s i 0) ≡ getD w i 0 → ⊥) → beginsAlike (drop i s) (drop i w) ≡ false
   alike-parts h g ne = alike-step h g ∙ ap (λ (t : Bool). t && beginsAlike (drop (i + 1) s) (drop (i + 1) w)) (ne-eqb (lowered (getD s i 0)) (getD w i 0) ne)
 
+  -- where it is, the rests from the next place on tell it
   pub alike-next : i < length s → i < length w → lowered (getD s i 0) ≡ getD w i 0 → beginsAlike (drop i s) (drop i w) ≡ beginsAlike (drop (i + 1) s) (drop (i + 1) w)
   alike-next h g e = alike-step h g ∙ ap (λ (t : Bool). t && beginsAlike (drop (i + 1) s) (drop (i + 1) w)) (eq-eqb (lowered (getD s i 0)) (getD w i 0) e)
 
+  -- where nothing of the word is left, any rest of a line begins with it
   pub alike-whole : length w ≤ i → beginsAlike (drop i s) (drop i w) ≡ true
   alike-whole h = ap (beginsAlike (drop i s)) (drop-of-length-le w {i = i} h)
 
 -- a word in front, by its two tests
 module _ (s w : List ℕ) where
+  -- a line that does not begin with the word, in whichever letters, does not have it in front
   pub not-alike : beginsAlike s w ≡ false → false ≡ isAlike s w
   unfolding isAlike
   not-alike e = sym (ap (λ (t : Bool). t && partedHere (drop (length w) s)) e)
 
+  -- one that does has it in front exactly where it is parted from what follows
   pub alike-parted : beginsAlike s w ≡ true → partedHere (drop (length w) s) ≡ isAlike s w
   unfolding isAlike
   alike-parted e = sym (ap (λ (t : Bool). t && partedHere (drop (length w) s)) e)

@@ -30,6 +30,7 @@ left-none k count vs h =
     let short : length (take count vs) ≤ k = omega arith in
     drop-of-length-le (take count vs) short
 
+-- of the first `count` numbers the k-th is written as one byte before those behind it, and nothing is written past the last
 pub bytes-next :
     (s : Spot) (k count : ℕ) (vs : List ℕ) →
     k < length vs →
@@ -40,6 +41,7 @@ bytes-next s k count vs h g = ap (λ (l : List ℕ). pushedAll s (oneEach l)) (l
 pub bytes-none : (s : Spot) (k count : ℕ) (vs : List ℕ) → min count (length vs) ≤ k → pushedAll s (oneEach (drop k (take count vs))) ≡ s
 bytes-none s k count vs h = ap (λ (l : List ℕ). pushedAll s (oneEach l)) (left-none k count vs h)
 
+-- the same of numbers that are written in 4 bytes each
 pub fours-next :
     (s : Spot) (k count : ℕ) (vs : List ℕ) →
     k < length vs →

@@ -72,9 +72,11 @@ module _ (s : RefT (List ℕ)) where
   abbrev pub canon : ℕ → RefT (List ℕ) → Answer
   canon m x = answering (whichAt (now s) m) x (rd (afterAt (now s) m))
 
+  -- a reader is known by its book and its offset
   pub reader-is : (r : Reader) (m : ℕ) → (r .book ≡ s) × (r .at ≡ m) → r ≡ rd m
   reader-is r m e = ap (λ (b : RefT (List ℕ)). reading b (r .at)) (e .0) ∙ ap (reading s) (e .1)
 
+  -- an answer of which `Answered` holds is `canon` with its own bytes
   pub canon-is : (m : ℕ) (a : Answer) → Answered (rd m) a → a ≡ canon m (a .bytes)
   canon-is m a e =
       ap (λ (w : ℕ). answering w (a .bytes) (a .reader)) (e .0)
@@ -88,6 +90,7 @@ module _ (κ : Lft) (s : RefT (List ℕ)) where
   abbrev pub Own : Fml
   Own = ShrSlice (named 0) κ u8 .own s (sliceVal (s .ptr) (length (s .now)) ∷ [])
 
+  -- the machine value of a reader, and of an answer, can only be the one that it is lowered to
   pub reader-told : (m : ℕ) (w : Val) → Is (ReaderR (κ, tt)) (rd s m) (w ∷ []) → w ∷ [] ≡ T′.lowered (rd s m) ∷ []
   reader-told m w is = LL.tells (T.the-type αᵉ) (T′.the-laws αᵉ) (rd s m) (w ∷ []) is
 
@@ -95,6 +98,7 @@ module _ (κ : Lft) (s : RefT (List ℕ)) where
   answer-told m x w is = LL.tells (An.the-type αᵉ) (An′.the-laws αᵉ) (canon s m x) (w ∷ []) is
 
 module _ {M : Type 1} (𝓤 : URA M) (H : Heap 𝓤) (A : Atoms 𝓤) (W : Given 𝓤 H A) (κ : Lft) (s : RefT (List ℕ)) where
+  -- the machine value of a reader, and of an answer, has the struct's type, and each number in it fits its width
   pub reader-typed : (m : ℕ) (w : Val) → Is (ReaderR (κ, tt)) (rd s m) (w ∷ []) → Holds (hasTy (T′.mir erased) w) × WT w
   reader-typed m w is = LL.lawful (T.the-type (αᵉ κ s)) (T′.the-laws (αᵉ κ s)) 𝓤 H A W .typed (rd s m) (w ∷ []) is .0
 
@@ -111,6 +115,7 @@ module _ {M : Type 1} (𝓤 : URA M) (H : Heap 𝓤) (A : Atoms 𝓤) (W : Given
   abbrev pub to-next : ℕ → Next 𝓤 H A mem run .Ghost
   to-next m = (((κ, tt), (q, tt), tt, (rd s m, tt), (T′.lowered (rd s m) ∷ [], tt)), tt)
 
+  -- with a share of the lifetime and the book's slice a caller has what `next` asks, at any offset below 2^64
   pub goes-next : (m : ℕ) → m < 2 ^ 64 → ent 𝓤 (sep 𝓤 (A .lft κ q) (sem 𝓤 H A (Own κ s))) (Next 𝓤 H A mem run .pre (to-next m))
   goes-next m fits =
       qed W (‵ (flft κ q) ∷ ‵ (Own κ s) ∷ []) ∵ nothing ! $ move ! (1 ∷ 0 ∷ []) $ join ! $ move ! (1 ∷ []) $
@@ -119,6 +124,7 @@ module _ {M : Type 1} (𝓤 : URA M) (H : Heap 𝓤) (A : Atoms 𝓤) (W : Given
       (own-shut 𝓤 H A W (T.the-type (namedLft 1 0 tt (κ, tt))) (T′.the-laws (namedLft 1 0 tt (κ, tt))) (s, (m, tt))) $
       nothing ! $ move ! (1 ∷ 0 ∷ []) $ fjoin ! $ move ! (1 ∷ 0 ∷ []) $ join ! $ frame ! $ done !
 
+  -- what `next` ensures says `Answered` of its answer
   pub next-said : (m : ℕ) (a : Answer)
       → ent 𝓤 (ensured 𝓤 H A next.ended (next.clauses 𝓤 H A mem run) (κ, tt) (rd s m, tt) tt a) (fact 𝓤 (Answered (rd s m) a))
   next-said m a = exE 𝓤 _ (λ ws. snd∗ 𝓤 (sem 𝓤 H A (lasts next.ended (κ, tt) (rd s m, tt) ws)) (fact 𝓤 (Answered (rd s m) a)))

@@ -16,15 +16,18 @@ module _ (book : List ℕ) where
   abbrev pub Come : ℕ → ℕ → Type 0
   Come n at = (n + length (recordsFrom book at) ≡ length (recordsFrom book 0)) × (stopFrom book at ≡ stopFrom book 0) × (n ≤ at) × (at ≤ length book)
 
+  -- before the first record none is counted
   pub come-start : Come 0 0
   come-start = (omega arith, refl, omega arith, omega arith)
 
+  -- a record that is answered is one more, and its end the next offset
   pub come-on : (n at : ℕ) → Come n at → whichAt book at ≡ 0 → Come (n + 1) (afterAt book at)
   come-on n at c h =
       let p = passed book at h in
       let l : length (recordsFrom book at) ≡ length (recordAt book at ∷ recordsFrom book (afterAt book at)) = ap length (p .0) in
       (omega (arith, l, c .0), sym (p .1) ∙ c .1, omega (arith, p .2, c .2), p .3)
 
+  -- and fewer bytes are left behind it
   pub come-nearer : (at : ℕ) → whichAt book at ≡ 0 → length book - afterAt book at < length book - at
   come-nearer at h = let p = passed book at h in omega (arith, p .2, p .3)
 
@@ -38,5 +41,6 @@ module _ (book : List ℕ) where
       let e : at ≡ stopFrom book 0 = sym (q .1) ∙ c .1 in
       (omega (arith, l, m, c .0), same-reader book at h .1 ∙ e, ap (whichAt book) e)
 
+-- a number that the test finds other than 0 is not 0
 pub unsame : (a : ℕ) → T (not (eqb a 0)) → a ≡ 0 → ⊥
 unsame a h z = T-not (eqb a 0) h (subst (λ (k : ℕ). T (eqb k 0)) (sym z) tt)

@@ -175,6 +175,7 @@ module _ (book : List ℕ) where
       let q = halted book at h in
       (asked-none book at n h ∙ sym (q .0), stopped-none book at n h ∙ sym (q .1))
 
+  -- asked at least as often as bytes are left, a reader gives the records from there on and is left where they stop
   pub asks-from : (n at : ℕ) → length book - at ≤ n → (asked n book at ≡ recordsFrom book at) × (stopped n book at ≡ stopFrom book at)
   unfolding asked stopped
   asks-from zero at few =
@@ -195,6 +196,7 @@ module _ (book : List ℕ) where
   ends-by at (inl e) = inl (ap whichOf e)
   ends-by at (inr e) = inr (ap whichOf e)
 
+  -- and the answer there is 1 (the end) or 2 (a broken length)
   pub asks-to-no-record : (n : ℕ) → length book ≤ n → (whichAt book (stopped n book 0) ≡ 1) ⊎ (whichAt book (stopped n book 0) ≡ 2)
   asks-to-no-record n enough =
       subst (λ (m : ℕ). (whichAt book m ≡ 1) ⊎ (whichAt book m ≡ 2)) (sym (asks-to-the-stop n enough .0)) (ends-by (stopFrom book 0) (records-stop book))
@@ -223,6 +225,7 @@ module _ (book : List ℕ) where
   joins zero at = append-nil (take at book)
   joins (suc n) at = join-turn n at (joins n) (test (eqb (whichAt book at) 0))
 
+  -- the records that are answered from offset 0 on are together the book up to where the reader is left
   pub asked-joined : (n : ℕ) → joined (asked n book 0) ≡ take (stopped n book 0) book
   asked-joined n = joins n 0
 
@@ -244,6 +247,7 @@ module _ (book : List ℕ) where
       let h : whichAt book at ≡ 0 → ⊥ = eqb-false (whichAt book at) 0 e in
       stands-on book at n ∙ ap (standsAfter n book) (same-reader book at h .1) ∙ ih at ∙ stopped-stays n at h ∙ sym (stopped-none book at n h)
 
+  -- asked n times, whatever it answers, a reader stands where asking until no record is answered, at most n times, leaves it
   pub asks-on : (n at : ℕ) → standsAfter n book at ≡ stopped n book at
   unfolding standsAfter stopped
   asks-on zero at = refl

@@ -29,6 +29,7 @@ StandR = TStand.the-row
 abbrev pub stand-mach : Stand → Val
 stand-mach x = LL.tuple-val TStand.the-type TStand′.the-laws (TStand.the-type .to x)
 
+-- the machine value of a `Stand` can only be `stand-mach` of it
 pub stand-tells : Tells StandR (Is StandR) (λ x. stand-mach x ∷ [])
 stand-tells = LL.tells TStand.the-type TStand′.the-laws
 
@@ -69,9 +70,11 @@ ty-at zero (local τ h ∷ ls) = τ
 ty-at (suc n) (local τ h ∷ ls) = ty-at n ls
 
 module _ {M : Type 1} (𝓤 : URA M) (H : Heap 𝓤) (A : Atoms 𝓤) (W : Given 𝓤 H A) where
+  -- it has the struct's type, and each number in it fits its width
   pub stand-typed : (x : Stand) (w : Val) → Is StandR x (w ∷ []) → Holds (hasTy TStand′.mir w) × WT w
   stand-typed x w g = LL.lawful TStand.the-type TStand′.the-laws 𝓤 H A W .typed x (w ∷ []) g .0
 
+  -- the machine value of an `Asked`, and of a `Counted`, is owned for nothing
   pub asked-makes : Makes 𝓤 H A AskedR (Is AskedR)
   asked-makes = LL.makes TAsked.the-type TAsked′.the-plain 𝓤 H A
 

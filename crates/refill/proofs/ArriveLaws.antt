@@ -26,7 +26,7 @@ module _ {S : Type 0} (step : S → List ℕ → S) where
   pub arrives-none : (st : S) (b : List ℕ) → Arrived step st (record { state = st; held = 0; dead = false }) b 0
   arrives-none st b = record { pieces = []; holds = begins-holding step st b; few = omega arith }
 
-  -- no more has come by a later turn
+  -- what has come within some turns has come within more
   pub arrives-within : (st : S) (h : Held S) (b : List ℕ) (turns most : ℕ) → turns ≤ most → Arrived step st h b turns → Arrived step st h b most
   arrives-within st h b turns most l a = record { pieces = a .pieces; holds = a .holds; few = omega (arith, a .few) }
 
@@ -87,5 +87,6 @@ module _
         let same = stays f call (eqb-false (t .answer f call) 0 e) in
         coe 1 0 (i. Arrived step st (reading (same .0 i)) (same .1 i) (turns + 1)) (arrives-nothing step st (reading f) b b₁ turns r on a)
 
+    -- either way the reading after the call holds what has come by one turn more
     pub turn-taken : Arrived step st (reading (t .next f call)) (t .left f call) (turns + 1)
     turn-taken = go (test (eqb (t .answer f call) 0))

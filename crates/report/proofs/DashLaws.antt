@@ -52,6 +52,7 @@ module _ (l : Ledger) (sound : soundLedger l ≡ true) (there : l .sheet .there 
   somebody-told : (dividedBy l index level set ≡ 0 → ⊥) → indexText l index level set ≡ decimalText shownDecimal
   somebody-told n = ap (λ (s : Shown). 32 ∷ figureText s) (somebody-shown n)
 
+  -- of a sound ledger with a sheet: - stands exactly where the index divides by 0, and else the nearest decimal of two digits
   pub dash-exactly-17 : Dashes l index level set
   dash-exactly-17 =
       record {

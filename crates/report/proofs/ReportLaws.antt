@@ -81,6 +81,7 @@ module _ (l : Ledger) where
       (index-length Caidi level set))
       (omega arith)
 
+  -- the eight lines have at most 640 bytes and the first line at most 110, so that a report fits its text of 1,024
   pub lines-length : length (linesText l) ≤ 640
   lines-length =
       let line : Level → Set → List ℕ = lineText l in

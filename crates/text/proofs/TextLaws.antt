@@ -60,6 +60,7 @@ piece-fits a (b ∷ l) h =
     let g : length (a ++ (b ∷ [])) + length l ≤ 1024 = omega arith in
     ap (λ (t : Text). pushedAll t l) (push-fits a b (omega arith)) ∙ piece-fits (a ++ (b ∷ [])) l g ∙ ap textOf (append-snoc a b l)
 
+-- bytes that fit, pushed from the empty text on, are their text
 pub all-fits : (l : List ℕ) → length l ≤ 1024 → pushedAll (textOf []) l ≡ textOf l
 all-fits l h = piece-fits [] l (omega arith)
 
@@ -85,6 +86,7 @@ spare-place (suc k) n h = go (spare-place k (n / 10) (tenth-below n (suc k) h)) 
     go more (holds e) = let l : n < 10 = ltb-true n 10 e in last-digit-alone (suc (suc k)) n l ∙ sym (last-digit-alone (suc k) n l)
     go more (fails e) = let l : 10 ≤ n = ltb-false n 10 e in last-digit-after (suc (suc k)) n l ∙ ap (λ (d : List ℕ). d ++ ((48 + n % 10) ∷ [])) more ∙ sym (last-digit-after (suc k) n l)
 
+-- a number below 10 is its digit; any other is the text of its tenth, and its last digit
 pub number-ends : (n : ℕ) → n < 10 → numberText n ≡ ((48 + n) ∷ [])
 unfolding numberText
 number-ends n h = last-digit-alone 19 n h
@@ -102,6 +104,7 @@ digits-length (suc k) n = go (digits-length k (n / 10)) (test (ltb n 10))
     go h (fails e) =
         rw (last-digit-after k n (ltb-false n 10 e), length-append (digitsIn k (n / 10)) ((48 + n % 10) ∷ [])) (omega arith)
 
+-- no number has more than 20 digits
 pub number-length : (n : ℕ) → length (numberText n) ≤ 20
 unfolding numberText
 number-length n = digits-length 20 n
@@ -127,6 +130,7 @@ digits-are (suc k) n = go (digits-are k (n / 10)) (test (ltb n 10))
         rw (last-digit-after k n (ltb-false n 10 e))
         (every-append isDigit (digitsIn k (n / 10)) ((48 + n % 10) ∷ []) others (and-both (isDigit (48 + n % 10)) true (digit-is (n % 10) (mod-lt n (omega arith))) refl))
 
+-- each byte of a number's text is a digit
 pub every-digit : (n : ℕ) → every isDigit (numberText n) ≡ true
 unfolding numberText
 every-digit n = digits-are 20 n

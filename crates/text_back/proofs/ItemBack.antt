@@ -152,6 +152,7 @@ hex-read d h = go (test (ltb d 10))
     go (holds e) = rw e (decimal (ltb-true d 10 e))
     go (fails e) = rw e (letter (ltb-false d 10 e))
 
+-- a byte that is written in two hexadecimal digits is read
 pub hex-back : (v : ℕ) (rest : List ℕ) → v ≤ 255 → hexFound (hexText v ++ rest) ≡ read v 2
 unfolding hexFound
 hex-back v rest h =
@@ -193,6 +194,7 @@ time-front year t rest = go (eqb year 0) (leb (minutesIn year) t)
     go false true = number
     go false false = digit-front (48 + dateOf year t .month / 10 % 10) (digit-stands (dateOf year t .month / 10 % 10) (omega arith))
 
+-- a written item begins with a byte from 48 to 102 that is no semicolon
 pub item-front : (item year v : ℕ) (rest : List ℕ) → Front (byteAt (itemText item year v ++ rest) 0)
 unfolding itemText
 item-front item year v rest = go (eqb item 4) (eqb item 5)

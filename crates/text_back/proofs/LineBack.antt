@@ -35,6 +35,7 @@ whole-most (suc (suc (suc zero))) count l h w =
 whole-most (suc (suc (suc (suc zero)))) count l h w = leb-true count 32 (unless (eqb count 0) (leb count 32) w .1)
 whole-most (suc (suc (suc (suc (suc kind))))) count l h w = absurd (omega arith)
 
+-- and none of the four sorts takes more than 261
 pub most-most : (kind : ℕ) → 1 ≤ kind → kind ≤ 4 → mostOf kind ≤ 261
 unfolding mostOf
 most-most zero l h = absurd (omega arith)
@@ -89,6 +90,7 @@ nothing-left kind k year = refl
 
 -- a word stands in front where it is written, and is found
 module _ (s : List ℕ) where
+  -- a line that begins with a word begins with no gap and no comment, and has not ended
   pub word-gapless : (kind : ℕ) → 1 ≤ kind → kind ≤ 4 → gapsIn (wordText kind ++ s) ≡ 0
   unfolding isGap
   word-gapless zero l h = absurd (omega arith)
@@ -106,6 +108,7 @@ module _ (s : List ℕ) where
   word-goes-on (suc (suc (suc (suc zero)))) l h = refl
   word-goes-on (suc (suc (suc (suc (suc kind))))) l h = absurd (omega arith)
 
+  -- a word that is parted from what follows is found as that of its sort
   pub word-back : (kind : ℕ) → 1 ≤ kind → kind ≤ 4 → partedHere s ≡ true → wordOf (wordText kind ++ s) ≡ wordAs kind
   unfolding wordOf isWord
   word-back zero l h p = absurd (omega arith)
@@ -191,6 +194,7 @@ ends-back (suc n) kind k year (v ∷ vs) w m h =
     ends-back n kind (k + 1) year vs (and-right (leb v (limitOf (itemOf kind k))) (withinFrom kind (k + 1) vs) w) (omega arith) (omega arith) in
     rw (first-back kind k year v vs w (omega arith), field-passed kind k year v rest, others)
 
+-- both at once
 pub items-back :
     (n kind k year : ℕ) (vs : List ℕ) →
     withinFrom kind k vs ≡ true →

@@ -67,6 +67,7 @@ records-one-line [] rest year = bytes-one-line (length rest) rest
 records-one-line (r ∷ rs) rest year =
     all-append OneLine (recordLines r year) (bookLines (yearAfter year r) rs rest) (record-one-line r year) (records-one-line rs rest (yearAfter year r))
 
+-- no line of a book's text holds a newline
 pub book-one-line : (book : List ℕ) → All OneLine (bookText book)
 book-one-line book = records-one-line (recordsOf book) (drop (stopFrom book 0) book) 0
 

@@ -56,6 +56,7 @@ module _ (s : List ℕ) (some : eqb (kindIn s) 0 ≡ false) where
           stepped (rw (frame-of, k1, k2, k3, e, f, g)) length-of (eqb-true (kindOf s) 3 k3) (eqb-true (length s) (14 + 16 * steps) g) (omega (arith, eqb-false steps 0 e))
           (ltb-false 64 steps f)
 
+  -- a record of a sort that is not none is one of these
   pub expressed : Expressed s
   unfolding kindIn
   expressed = go (test (eqb (kindOf s) 1)) (test (eqb (kindOf s) 2)) (test (eqb (kindOf s) 3)) (test (eqb (length s) 18)) (test (eqb (length s) 53))
@@ -133,6 +134,7 @@ module _ (s : List ℕ) (b : Bytes s) where
   again (stepped k stated kind l low high) =
       ap (λ (n : ℕ). packedAs n (valuesRun (countIn s n) s n 0)) k ∙ ap steppedBytes (stepped-values s high) ∙ stepped-line stated kind l
 
+  -- the numbers of a record that a line expresses stand for its own bytes
   pub record-back : eqb (kindIn s) 0 ≡ false → packedAs (kindIn s) (valuesIn s) ≡ s
   record-back some = again (expressed s some)
 
@@ -145,6 +147,7 @@ module _ (s : List ℕ) where
   whole-of-count (stepped k stated kind l low high) =
       rw (k, le-ltb (5 + 4 * stepCount s) 9 (omega arith), le-ltb 261 (5 + 4 * stepCount s) (omega arith)) (eq-eqb ((5 + 4 * stepCount s - 5) % 4) 0 (omega arith))
 
+  -- a line of its sort is whole with as many numbers as it has
   pub record-whole : eqb (kindIn s) 0 ≡ false → wholeOf (kindIn s) (length (valuesIn s)) ≡ true
   record-whole some = ap (wholeOf (kindIn s)) (run-length (countIn s (kindIn s)) s (kindIn s) 0) ∙ whole-of-count (expressed s some)
 
@@ -185,6 +188,7 @@ module _ (s : List ℕ) (b : Bytes s) where
   no-hex-kind (simple k stated kind l) = rw k
   no-hex-kind (stepped k stated kind l low high) = rw k
 
+  -- each of its numbers is within what its item takes
   pub record-within : eqb (kindIn s) 0 ≡ false → withinFrom (kindIn s) 0 (valuesIn s) ≡ true
   record-within some = run-within (kindIn s) (no-hex-kind (expressed s some)) (countIn s (kindIn s)) 0
 
@@ -196,10 +200,12 @@ ones-again (x ∷ s) b =
     let e : x % 256 ≡ x = omega arith in
     λ i. e i ∷ ones-again s (b .1) i
 
+-- bytes, as the numbers of a line of bytes, stand for themselves
 pub hex-back : (s : List ℕ) → Bytes s → packedAs 4 s ≡ s
 unfolding packedAs
 hex-back s b = ones-again s b
 
+-- 1 to 32 bytes make a whole line, and each is within what its item takes
 pub hex-whole : (s : List ℕ) → 1 ≤ length s → length s ≤ 32 → wholeOf 4 (length s) ≡ true
 unfolding wholeOf
 hex-whole s low high = rw (ne-eqb (length s) 0 (omega arith)) (le-leb (length s) 32 high)

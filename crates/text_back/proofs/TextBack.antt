@@ -241,6 +241,7 @@ spoken-first l ls year others (fails e) =
     let after = others (yearOn year l) in
     rw e (ap (λ (s : List ℕ). lineBytes l year ++ s) (after .0), ap (λ (t : Bool). eqb (parsedOf l year .answer) 0 && t) (after .1))
 
+-- lines stand for the bytes of those of them that say something, and are refused exactly where those are
 pub spoken-same : (ls : List (List ℕ)) (year : ℕ) → Same year ls (spoken ls)
 spoken-same [] year = (refl, refl)
 spoken-same (l ∷ ls) year = spoken-first l ls year (spoken-same ls) (test (silent l))
@@ -282,6 +283,7 @@ all-spoken : (ls : List (List ℕ)) → All Speaks ls → spoken ls ≡ ls
 all-spoken [] a = refl
 all-spoken (l ∷ ls) a = rw (a .0) (ap (λ (ms : List (List ℕ)). l ∷ ms) (all-spoken ls (a .1)))
 
+-- every line of a book's text says something
 pub text-spoken : (book : List ℕ) → spoken (bookText book) ≡ bookText book
 text-spoken book = all-spoken (bookText book) (lines-speak (recordsOf book) (drop (stopFrom book 0) book) 0)
 

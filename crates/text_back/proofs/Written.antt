@@ -99,6 +99,7 @@ module _ (P : ℕ → Type 0) (space : P 32) (bar : P 124) (dash : P 45) (colon 
       (either (eqb kind 3) _ _ (l (omega arith), (l (omega arith), (l (omega arith), (l (omega arith), (l (omega arith), (l (omega arith), (l (omega arith), tt)))))))
       (either (eqb kind 4) _ _ (l (omega arith), (l (omega arith), (l (omega arith), tt))) tt)))
 
+  -- what holds of a space, a bar, a dash, a colon, each digit and each byte from 97 on holds of every byte of a written line
   pub line-written : (kind year : ℕ) (vs : List ℕ) → All P (lineText kind year vs)
   line-written kind year vs = both (wordText kind) (itemsText kind year 0 vs) (word-written kind) (items-written kind year 0 vs)
 

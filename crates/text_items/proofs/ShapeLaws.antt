@@ -49,6 +49,7 @@ whole-stepped count e =
     let fours : (count - 5) % 4 ≡ 0 = eqb-true ((count - 5) % 4) 0 (many .1) in
     (least, ltb-false 261 count (many .0), omega arith)
 
+-- a line of bytes has 1 to 32 of them
 pub whole-bytes : (count : ℕ) → wholeOf 4 count ≡ true → (1 ≤ count) × (count ≤ 32)
 unfolding wholeOf
 whole-bytes count e =

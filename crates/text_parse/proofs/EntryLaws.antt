@@ -41,27 +41,33 @@ module _ (s w : List ℕ) (i : ℕ) where
   begins-step : i < length s → i < length w → beginsWith (drop i s) (drop i w) ≡ (eqb (getD s i 0) (getD w i 0) && beginsWith (drop (i + 1) s) (drop (i + 1) w))
   begins-step h g = rw (add-one i, drop-cons s i 0 h, drop-cons w i 0 g) refl
 
+  -- where the bytes at a place differ, the rest of the line from there does not begin with the rest of the word
   pub begins-parts : i < length s → i < length w → (getD s i 0 ≡ getD w i 0 → ⊥) → beginsWith (drop i s) (drop i w) ≡ false
   begins-parts h g ne = begins-step h g ∙ ap (λ (t : Bool). t && beginsWith (drop (i + 1) s) (drop (i + 1) w)) (ne-eqb (getD s i 0) (getD w i 0) ne)
 
+  -- where they are the same, the rests from the next place on tell it
   pub begins-next : i < length s → i < length w → getD s i 0 ≡ getD w i 0 → beginsWith (drop i s) (drop i w) ≡ beginsWith (drop (i + 1) s) (drop (i + 1) w)
   begins-next h g e = begins-step h g ∙ ap (λ (t : Bool). t && beginsWith (drop (i + 1) s) (drop (i + 1) w)) (eq-eqb (getD s i 0) (getD w i 0) e)
 
+  -- where nothing of the word is left, any rest of a line begins with it
   pub begins-whole : length w ≤ i → beginsWith (drop i s) (drop i w) ≡ true
   begins-whole h = ap (beginsWith (drop i s)) (drop-of-length-le w {i = i} h)
 
 -- a word in front, by its two tests
 module _ (s w : List ℕ) where
+  -- a line that does not begin with the word's bytes does not have the word in front
   pub no-word : beginsWith s w ≡ false → false ≡ isWord s w
   unfolding isWord
   no-word e = sym (ap (λ (t : Bool). t && partedHere (drop (length w) s)) e)
 
+  -- one that does has it in front exactly where those bytes are parted from what follows
   pub word-parted : beginsWith s w ≡ true → partedHere (drop (length w) s) ≡ isWord s w
   unfolding isWord
   word-parted e = sym (ap (λ (t : Bool). t && partedHere (drop (length w) s)) e)
 
 -- the words in their order
 module _ (s : List ℕ) where
+  -- the first of the four words that stands in front is the line's, and where none does its kind is 0
   pub word-first : isWord s (wordText 1) ≡ true → wordOf s ≡ wordAs 1
   unfolding wordOf
   word-first e = chosen _ _ (isWord s (wordText 1)) e
@@ -125,11 +131,13 @@ module _ (s : List ℕ) (kind k year : ℕ) where
   abbrev pub itemHere : Found
   itemHere = itemFound (drop (gapsIn s) s) (itemOf kind k) year
 
+  -- 255 where nothing but gaps is left before the end or a comment
   pub next-ended : endsHere (drop (gapsIn s) s) ≡ true → nextField s kind k year ≡ saidAt 255 (gapsIn s)
   unfolding nextField
   next-ended e = chosen _ _ (endsHere (drop (gapsIn s) s)) e
 
   module _ (goes : endsHere (drop (gapsIn s) s) ≡ false) where
+    -- 11 where the line goes on and its sort takes no more items
     pub next-over : leb (mostOf kind) k ≡ true → nextField s kind k year ≡ saidAt 11 (gapsIn s)
     unfolding nextField
     next-over m = passed-over _ _ (endsHere (drop (gapsIn s) s)) goes ∙ chosen _ _ (leb (mostOf kind) k) m
@@ -139,12 +147,15 @@ module _ (s : List ℕ) (kind k year : ℕ) where
       unfolding nextField
       next-item = passed-over _ _ (endsHere (drop (gapsIn s) s)) goes ∙ passed-over _ _ (leb (mostOf kind) k) more
 
+      -- where no item of its sort stands there, what was expected is said of the place behind the gaps
       pub next-none : eqb (itemHere .answer) 0 ≡ false → nextField s kind k year ≡ saidAt (itemHere .answer) (gapsIn s)
       next-none e = next-item ∙ item-none s (gapsIn s) itemHere e
 
+      -- 10 behind an item that is not parted from what follows
       pub next-joined : eqb (itemHere .answer) 0 ≡ true → partedHere (drop (gapsIn s + itemHere .used) s) ≡ false → nextField s kind k year ≡ saidAt 10 (gapsIn s + itemHere .used)
       next-joined e p = next-item ∙ item-joined s (gapsIn s) itemHere e p
 
+      -- an item that is parted from what follows is read, with the gaps before it
       pub next-stands : eqb (itemHere .answer) 0 ≡ true → partedHere (drop (gapsIn s + itemHere .used) s) ≡ true → nextField s kind k year ≡ read (itemHere .value) (gapsIn s + itemHere .used)
       next-stands e p = next-item ∙ item-stands s (gapsIn s) itemHere e p
 
@@ -152,6 +163,7 @@ module _ (s : List ℕ) (kind k year : ℕ) where
   pub item-fits : gapsIn s + itemHere .used ≤ length s
   item-fits = omega (arith, gaps-short s, item-short (drop (gapsIn s) s) (itemOf kind k) year, length-drop (gapsIn s) s)
 
+  -- the place that is said of the next item, read or not, is within the line
   pub next-short : nextField s kind k year .used ≤ length s
   next-short = go (test (endsHere (drop (gapsIn s) s))) (test (leb (mostOf kind) k))
     where
@@ -162,10 +174,12 @@ module _ (s : List ℕ) (kind k year : ℕ) where
 
 -- the gap in front of an item, by its test
 module _ (s : List ℕ) (kind k sep : ℕ) where
+  -- without a separator every gap is right
   pub gap-plain : eqb sep 0 ≡ true → gapBefore s kind k sep ≡ saidAt 0 0
   unfolding gapBefore
   gap-plain e = chosen _ _ (eqb sep 0) e
 
+  -- with one, a gap is judged by it and by whether an item is due behind the gap
   pub gap-cells : eqb sep 0 ≡ false → gapBefore s kind k sep ≡ gapSaid (take (gapsIn s) s) sep (itemDue (drop (gapsIn s) s) kind k)
   unfolding gapBefore
   gap-cells e = passed-over _ _ (eqb sep 0) e
@@ -181,10 +195,12 @@ module _ (s : List ℕ) (kind k sep : ℕ) where
 
 -- the next item of a line with a separator, by its test
 module _ (s : List ℕ) (kind k year sep : ℕ) where
+  -- behind a gap that is right the next item is read as in any line
   pub cell-right : eqb (gapBefore s kind k sep .answer) 0 ≡ true → nextCell s kind k year sep ≡ nextField s kind k year
   unfolding nextCell
   cell-right e = chosen _ _ (eqb (gapBefore s kind k sep .answer) 0) e
 
+  -- behind any other, what is said is what is said of the gap
   pub cell-wrong : eqb (gapBefore s kind k sep .answer) 0 ≡ false → nextCell s kind k year sep ≡ gapBefore s kind k sep
   unfolding nextCell
   cell-wrong e = passed-over _ _ (eqb (gapBefore s kind k sep .answer) 0) e
@@ -246,21 +262,25 @@ module _ (line : List ℕ) (at kind k year sep : ℕ) (f : Found) (is : f ≡ ne
       let rest = ap (λ (s : List ℕ). length (valuesFrom n s kind (k + 1) year sep)) past in
       omega arith
 
+-- with no turn left no item is read
 pub read-none : (line : List ℕ) (at kind k year sep : ℕ) → k + length (valuesFrom 0 (drop at line) kind k year sep) ≡ k
 unfolding valuesFrom
 read-none line at kind k year sep = omega arith
 
 -- the outcome once the items are read, by its two tests
 module _ (answer at kind count : ℕ) (values : List ℕ) where
+  -- what stopped the reading before the line's end refuses the line, at that place
   pub ended-other : eqb answer 255 ≡ false → endedBy answer at kind count values ≡ refusedAt answer at
   unfolding endedBy
   ended-other e = chosen _ _ (not (eqb answer 255)) (ap not e)
 
   module _ (ended : eqb answer 255 ≡ true) where
+    -- 12 at the end of a line that is not whole with so many items
     pub ended-few : wholeOf kind count ≡ false → endedBy answer at kind count values ≡ refusedAt 12 at
     unfolding endedBy
     ended-few e = passed-over _ _ (not (eqb answer 255)) (ap not ended) ∙ chosen _ _ (not (wholeOf kind count)) (ap not e)
 
+    -- a line that is whole has the entry of its sort, its count and its numbers
     pub ended-whole : wholeOf kind count ≡ true → endedBy answer at kind count values ≡ record { answer = 0; at = at; entry = record { kind = kind; count = count; values = values } }
     unfolding endedBy
     ended-whole e = passed-over _ _ (not (eqb answer 255)) (ap not ended) ∙ passed-over _ _ (not (wholeOf kind count)) (ap not e)
@@ -312,15 +332,18 @@ module _ (line : List ℕ) (at kind k year sep : ℕ) (values : List ℕ) (f : F
   answer-is : (t : Bool) → eqb (f .answer) 0 ≡ t → eqb (nextCell (drop at line) kind k year sep .answer) 0 ≡ t
   answer-is t e = sym (ap (λ (r : Found). eqb (r .answer) 0) is) ∙ e
 
+  -- with no turn left, or where the item is not there, the line is ended by what is said of the item, with the k items so far
   pub going-last : goingOn zero line at kind k year sep values ≡ endedBy (f .answer) (at + f .used) kind k values
   going-last = last-here line at kind k year sep values ∙ sym (ap (λ (r : Found). endedBy (r .answer) (at + r .used) kind k values) is)
 
   pub going-ends : (n : ℕ) → eqb (f .answer) 0 ≡ false → goingOn (suc n) line at kind k year sep values ≡ endedBy (f .answer) (at + f .used) kind k values
   going-ends n e = ends-here line at kind k year sep values n (answer-is false e) ∙ sym (ap (λ (r : Found). endedBy (r .answer) (at + r .used) kind k values) is)
 
+  -- where the item is there its number is the k-th, and the line goes on behind it with a turn fewer
   pub going-on : (n : ℕ) → eqb (f .answer) 0 ≡ true → goingOn (suc n) line at kind k year sep values ≡ goingOn n line (at + f .used) kind (k + 1) year sep (set values k (f .value))
   going-on n e = goes-on line at kind k year sep values n (answer-is true e) ∙ sym (ap (λ (r : Found). goingOn n line (at + r .used) kind (k + 1) year sep (set values k (r .value))) is)
 
+  -- the item, with the gap before it, takes no more bytes than are left of the line
   pub going-short : at + f .used ≤ at + (length line - at)
   going-short =
       let e : f .used ≡ nextCell (drop at line) kind k year sep .used = ap (λ (r : Found). r .used) is in
@@ -357,6 +380,7 @@ starts-from n line start kind year sep =
     let p = put-over n vs (values-few n (drop start line) kind 0 year sep) in
     λ i. endedBy (l .answer) (start + l .used) kind (z i) (p i)
 
+-- the items of a line are gathered in 261 turns from their start on, over 261 zeros
 pub going-starts : (line : List ℕ) (start kind year sep : ℕ) → gathered line start kind year sep ≡ goingOn 261 line start kind 0 year sep (replicate 261 0)
 unfolding gathered
 going-starts line start kind year sep = sym (starts-from 261 line start kind year sep)
@@ -366,6 +390,7 @@ module _ (line : List ℕ) (year : ℕ) where
   abbrev frontOf : List ℕ
   frontOf = drop (gapsIn line) line
 
+  -- a line of gaps alone, or of gaps and a comment, has no entry and is not refused
   pub parse-blank : endsHere frontOf ≡ true → parsedOf line year ≡ refusedAt 0 (gapsIn line)
   unfolding parsedOf
   parse-blank e = chosen _ _ (endsHere frontOf) e
@@ -374,15 +399,18 @@ module _ (line : List ℕ) (year : ℕ) where
   otherBefore = otherAt (take (gapsIn line) line) (separatorOf line)
 
   module _ (goes : endsHere frontOf ≡ false) where
+    -- 13 where another separator than the line's stands in the gaps before the word
     pub parse-other : ltb otherBefore (gapsIn line) ≡ true → parsedOf line year ≡ refusedAt 13 otherBefore
     unfolding parsedOf
     parse-other o = passed-over _ _ (endsHere frontOf) goes ∙ chosen _ _ (ltb otherBefore (gapsIn line)) o
 
     module _ (same : ltb otherBefore (gapsIn line) ≡ false) where
+      -- 1 behind the gaps where none of the words stands
       pub parse-wordless : eqb (wordOf frontOf .kind) 0 ≡ true → parsedOf line year ≡ refusedAt 1 (gapsIn line)
       unfolding parsedOf
       parse-wordless e = passed-over _ _ (endsHere frontOf) goes ∙ passed-over _ _ (ltb otherBefore (gapsIn line)) same ∙ chosen _ _ (eqb (wordOf frontOf .kind) 0) e
 
+      -- behind a word the items of its sort are gathered, with the line's separator
       pub parse-gathers :
           eqb (wordOf frontOf .kind) 0 ≡ false → parsedOf line year ≡ gathered line (gapsIn line + wordOf frontOf .used) (wordOf frontOf .kind) year (separatorOf line)
       unfolding parsedOf

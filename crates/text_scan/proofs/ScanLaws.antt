@@ -28,6 +28,7 @@ pub empty-ends : (s : List ℕ) → length s ≡ 0 → true ≡ endsHere s
 empty-ends [] h = refl
 empty-ends (b ∷ s) h = absurd (omega arith)
 
+-- a line that is not empty ends here exactly where its first byte is #
 pub first-ends : (s : List ℕ) → (length s ≡ 0 → ⊥) → eqb (getD s 0 0) 35 ≡ endsHere s
 first-ends [] h = absurd (h refl)
 first-ends (b ∷ s) h = refl
@@ -89,25 +90,30 @@ module _ (s : List ℕ) (i : ℕ) where
 
 -- a gap of a line of cells, by its tests
 module _ (gap : List ℕ) (sep : ℕ) (due : Bool) where
+  -- 13 at the first other separator, whether or not an item is due behind the gap
   pub gap-other : ltb (otherAt gap sep) (length gap) ≡ true → gapSaid gap sep due ≡ saidAt 13 (otherAt gap sep)
   unfolding gapSaid
   gap-other o = rw (gapSaid, o)
 
   module _ (same : ltb (otherAt gap sep) (length gap) ≡ false) where
+    -- a gap without one is right where no item is due behind it
     pub gap-undue : due ≡ false → gapSaid gap sep due ≡ saidAt 0 0
     unfolding gapSaid
     gap-undue d = rw (gapSaid, same, d)
 
     module _ (item : due ≡ true) where
+      -- 14 at the end of a gap without a separator, where an item is due
       pub gap-none : leb (length gap) (separatorPlace gap sep) ≡ true → gapSaid gap sep due ≡ saidAt 14 (length gap)
       unfolding gapSaid
       gap-none n = rw (gapSaid, same, item, n)
 
       module _ (one : leb (length gap) (separatorPlace gap sep) ≡ false) where
+        -- 15 at the second separator, where an item is due
         pub gap-empty : ltb (secondOf gap sep) (length gap) ≡ true → gapSaid gap sep due ≡ saidAt 15 (secondOf gap sep)
         unfolding gapSaid
         gap-empty t = rw (gapSaid, same, item, one, t)
 
+        -- a gap with one separator alone is right there
         pub gap-right : ltb (secondOf gap sep) (length gap) ≡ false → gapSaid gap sep due ≡ saidAt 0 0
         unfolding gapSaid
         gap-right t = rw (gapSaid, same, item, one, t)

@@ -125,6 +125,7 @@ number-within (suc k) n h l = go (number-within k (n / 10) (tenth-below n (suc k
     go fewer (holds e) = rw (number-ends n (ltb-true n 10 e)) (omega arith)
     go fewer (fails e) = rw (number-unrolls n (ltb-false n 10 e) l, length-append (numberText (n / 10)) ((48 + n % 10) ∷ [])) (omega arith)
 
+-- a number of 32 bits has at most 10 bytes, a date exactly 11, any item of 32 bits at most 11, a gap at most 3, a word at most 7
 pub number-short : (n : ℕ) → n < 4294967296 → length (numberText n) ≤ 10
 number-short n h = number-within 9 n (omega arith) (omega arith)
 
@@ -156,6 +157,7 @@ word-short kind =
     (one-of-two (eqb kind 3) _ _ 7 (omega arith)
     (one-of-two (eqb kind 4) _ _ 7 (omega arith) (omega arith))))
 
+-- so items of 32 bits have at most 14 bytes each, their gaps included
 pub items-short : (kind year k : ℕ) (vs : List ℕ) → ((i : ℕ) → getD vs i 0 < 4294967296) → length (itemsText kind year k vs) ≤ 14 * length vs
 items-short kind year k [] h = omega arith
 items-short kind year k (v ∷ vs) h =

@@ -17,6 +17,7 @@ module _ (s : List ℕ) where
   stands : (l : List ℕ) (k m b : ℕ) → length l ≡ k → set (l ++ replicate (suc m) 0) k b ≡ (l ++ (b ∷ [])) ++ replicate m 0
   stands l k m b e = ap (λ (i : ℕ). set (l ++ replicate (suc m) 0) i b) (sym e) ∙ set-append-seam l 0 (replicate m 0) b ∙ sym (append-snoc l b (replicate m 0))
 
+  -- with the k-th byte (from 0) set at its place there are k + 1 bytes
   pub one-more : (k : ℕ) → k < length s → k < 32 → set (begun k) k (getD s k 0) ≡ begun (k + 1)
   one-more k h few =
       let m : ℕ = 261 - (k + 1) in
@@ -30,6 +31,7 @@ module _ (s : List ℕ) where
   entry-with : (l : List ℕ) (k : ℕ) → length l ≡ k → record { kind = 4; count = k; values = l ++ replicate (261 - k) 0 } ≡ entryOf 4 l
   entry-with l k e = λ i. record { kind = 4; count = sym e i; values = l ++ replicate (261 - sym e i) 0 }
 
+  -- of 32 bytes or more the first 32 are the line, and of at most 32 all of them
   pub full-line : 32 ≤ length s → record { kind = 4; count = 32; values = begun 32 } ≡ bytesEntry s
   unfolding bytesEntry
   full-line h = entry-with (take 32 s) 32 (length-take-le 32 s h)

@@ -19,6 +19,7 @@ use Rattle.text_items.proofs.ShapeLaws.{most-small}
 use Rattle.unpack.specs.Unpack.{kindIn, steppedIn, countIn, valueIn, valuesRun, unpackedOf, yearAfter}
 
 module _ (s : List ℕ) where
+  -- the sort of the line that expresses a record: its kind, where it is framed and has its kind's length; 0 for any other record
   pub kind-unframed : framed s ≡ false → 0 ≡ kindIn s
   unfolding kindIn
   kind-unframed f = rw (kindIn, f) refl
@@ -47,6 +48,7 @@ module _ (s : List ℕ) where
   unfolding kindIn
   kind-stepped f k = rw (kindIn, f, k) refl
 
+  -- of a stepped event: 3 for 1 to 64 steps and the length that they make, else 0
   pub stepped-none : framed s ≡ true → kindOf s ≡ 3 → stepCount s ≡ 0 → 0 ≡ kindIn s
   stepped-none f k n = sym (rw n refl) ∙ kind-stepped f k
 
@@ -77,6 +79,7 @@ module _ (s : List ℕ) where
       let e : 0 ≡ steppedIn s = rw (ne-eqb (stepCount s) 0 n, le-ltb 64 (stepCount s) m, ne-eqb (length s) (14 + 16 * stepCount s) l) refl in
       e ∙ kind-stepped f k
 
+  -- a stepped event has 5 numbers and 4 for each step, any other record as many as its sort takes
   pub count-stepped : (kind : ℕ) → kind ≡ 3 → 5 + 4 * stepCount s ≡ countIn s kind
   unfolding countIn
   count-stepped kind k = rw (countIn, k) refl
@@ -86,6 +89,7 @@ module _ (s : List ℕ) where
   count-other kind k = rw (countIn, ne-eqb kind 3 k) refl
 
 module _ (s : List ℕ) (kind k : ℕ) where
+  -- where the k-th number (from 0) of a record stands, and in how many bytes, by its sort; 0 for k of 261 or more
   pub value-past : 261 ≤ k → 0 ≡ valueIn s kind k
   unfolding valueIn
   value-past h = rw (valueIn, le-leb 261 k h) refl
@@ -115,6 +119,7 @@ module _ (s : List ℕ) (kind k : ℕ) where
   value-stepped h z n l m e = rw (valueIn, lt-leb 261 k h, ne-eqb k 0 z, ne-eqb kind 1 n, le-ltb k 4 l, ne-eqb k 4 m, ne-eqb kind 2 e) refl
 
 module _ (year : ℕ) (s : List ℕ) where
+  -- a year that is known stays; where none is, a sheet in range tells it, and any other record none
   pub year-kept : (year ≡ 0 → ⊥) → year ≡ yearAfter year s
   unfolding yearAfter
   year-kept n = rw (yearAfter, ne-eqb year 0 n) refl
@@ -160,6 +165,7 @@ steps-few s e =
     let f = past (eqb (stepCount s) 0) 0 many none d .1 in
     ltb-false 64 (stepCount s) (past (ltb 64 (stepCount s)) 0 last none f .0)
 
+-- no record has more than 261 numbers
 pub count-few : (s : List ℕ) (kind : ℕ) → kind ≡ kindIn s → countIn s kind ≤ 261
 count-few s kind e = go (test (eqb kind 3))
   where
@@ -190,6 +196,7 @@ run-ends (suc n) s kind k =
 abbrev pub filled : ℕ → List ℕ → ℕ → List ℕ
 filled k s kind = valuesRun k s kind 0 ++ replicate (261 - k) 0
 
+-- with the k-th number (from 0) set at its place there are k + 1 numbers
 pub filled-next : (k : ℕ) (s : List ℕ) (kind : ℕ) → k < 261 → set (filled k s kind) k (valueIn s kind k) ≡ filled (k + 1) s kind
 filled-next k s kind h =
     let run = valuesRun k s kind 0 in
@@ -216,6 +223,7 @@ entry-of s kind k e n c =
     ∙ (λ i. entryOf (e i) (valuesRun (all i) s (e i) 0))
     ∙ sym (rw (unpackedOf, ne-eqb (kindIn s) 0 (λ z. n (e ∙ z))) refl)
 
+-- a record that no line expresses has no entry: sort 0 and zeros
 pub blank-of : (s : List ℕ) (kind : ℕ) → kind ≡ kindIn s → kind ≡ 0 → _≡_ {A = Entry} record { kind = kind; count = 0; values = replicate 261 0 } (unpackedOf s)
 unfolding unpackedOf
 blank-of s kind e z = (λ i. record { kind = z i; count = 0; values = replicate 261 0 }) ∙ sym (rw (unpackedOf, eq-eqb (kindIn s) 0 (sym e ∙ z)) refl)
