@@ -70,7 +70,7 @@ ty-at zero (local τ h ∷ ls) = τ
 ty-at (suc n) (local τ h ∷ ls) = ty-at n ls
 
 module _ {M : Type 1} (𝓤 : URA M) (H : Heap 𝓤) (A : Atoms 𝓤) (W : Given 𝓤 H A) where
-  -- it has the struct's type, and each number in it fits its width
+  -- the machine value of a `Stand` has the struct's type, and each number in it fits its width
   pub stand-typed : (x : Stand) (w : Val) → Is StandR x (w ∷ []) → Holds (hasTy TStand′.mir w) × WT w
   stand-typed x w g = LL.lawful TStand.the-type TStand′.the-laws 𝓤 H A W .typed x (w ∷ []) g .0
 

@@ -86,7 +86,7 @@ spare-place (suc k) n h = go (spare-place k (n / 10) (tenth-below n (suc k) h)) 
     go more (holds e) = let l : n < 10 = ltb-true n 10 e in last-digit-alone (suc (suc k)) n l ∙ sym (last-digit-alone (suc k) n l)
     go more (fails e) = let l : 10 ≤ n = ltb-false n 10 e in last-digit-after (suc (suc k)) n l ∙ ap (λ (d : List ℕ). d ++ ((48 + n % 10) ∷ [])) more ∙ sym (last-digit-after (suc k) n l)
 
--- a number below 10 is its digit; any other is the text of its tenth, and its last digit
+-- a number below 10 is its digit; any other below 10^20 is the text of its tenth, and its last digit
 pub number-ends : (n : ℕ) → n < 10 → numberText n ≡ ((48 + n) ∷ [])
 unfolding numberText
 number-ends n h = last-digit-alone 19 n h
@@ -104,7 +104,7 @@ digits-length (suc k) n = go (digits-length k (n / 10)) (test (ltb n 10))
     go h (fails e) =
         rw (last-digit-after k n (ltb-false n 10 e), length-append (digitsIn k (n / 10)) ((48 + n % 10) ∷ [])) (omega arith)
 
--- no number has more than 20 digits
+-- the text of no number has more than 20 bytes
 pub number-length : (n : ℕ) → length (numberText n) ≤ 20
 unfolding numberText
 number-length n = digits-length 20 n

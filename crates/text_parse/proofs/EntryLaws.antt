@@ -251,6 +251,7 @@ module _ (line : List ℕ) (at kind k year sep : ℕ) (f : Found) (is : f ≡ ne
   found-is : (t : Bool) → eqb (f .answer) 0 ≡ t → eqb (nextCell (drop at line) kind k year sep .answer) 0 ≡ t
   found-is t e = sym (ap (λ (r : Found). eqb (r .answer) 0) is) ∙ e
 
+  -- none where the item is not there; where it is, it and those behind it
   pub read-ends : (n : ℕ) → eqb (f .answer) 0 ≡ false → k + readFrom (suc n) at k ≡ k
   read-ends n e = let none = ap length (none-left n (drop at line) kind k year sep (found-is false e)) in omega arith
 
@@ -269,7 +270,7 @@ read-none line at kind k year sep = omega arith
 
 -- the outcome once the items are read, by its two tests
 module _ (answer at kind count : ℕ) (values : List ℕ) where
-  -- what stopped the reading before the line's end refuses the line, at that place
+  -- what is said behind the items, other than the line's end (255), is the answer, with its place and no entry
   pub ended-other : eqb answer 255 ≡ false → endedBy answer at kind count values ≡ refusedAt answer at
   unfolding endedBy
   ended-other e = chosen _ _ (not (eqb answer 255)) (ap not e)
