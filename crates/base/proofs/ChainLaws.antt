@@ -10,6 +10,7 @@ abbrev pub andOf : Bool → List Bool → Bool
 andOf t [] = t
 andOf t (u ∷ us) = andOf (t && u) us
 
+-- where the chain is true, each of its tests is
 pub each-holds : (t : Bool) (us : List Bool) → andOf t us ≡ true → All (λ b. b ≡ true) (t ∷ us)
 each-holds t [] e = (e, tt)
 each-holds t (u ∷ us) e = let k = each-holds (t && u) us e in (and-left t u (k .0), (and-right t u (k .0), k .1))
@@ -19,6 +20,7 @@ abbrev pub orOf : Bool → List Bool → Bool
 orOf t [] = t
 orOf t (u ∷ us) = orOf (t || u) us
 
+-- where the chain is false, each of its tests is
 pub each-fails : (t : Bool) (us : List Bool) → orOf t us ≡ false → All (λ b. b ≡ false) (t ∷ us)
 each-fails t [] e = (e, tt)
 each-fails t (u ∷ us) e = let k = each-fails (t || u) us e in (or-left t u (k .0), (or-right t u (k .0), k .1))

@@ -51,6 +51,7 @@ module _ (n : ℕ) where
       go false a true b ih = absurd (eqb-false (q .0) n a (ap (λ t. cond t (q .0) (first rs)) (sym b) ∙ e))
       go false a false b ih = (b, ih (ap (λ t. cond t (q .0) (first rs)) (sym b) ∙ e))
 
+  -- where n is foremost it is the answer, also of rules whose numbers do not rise
   pub then : (rs : List Rule) → Foremost n rs → first rs ≡ n
   then [] f = sym f
   then (q ∷ rs) f = go (eqb (q .0) n) refl f (then rs)
@@ -59,6 +60,7 @@ module _ (n : ℕ) where
       go true a g ih = ap (λ t. cond t (q .0) (first rs)) g ∙ eqb-true (q .0) n a
       go false a g ih = ap (λ t. cond t (q .0) (first rs)) (g .0) ∙ ih (g .1)
 
+-- of rules whose numbers rise from above 0: the answer is n exactly where n is foremost
 pub exactly-then : (n : ℕ) (rs : List Rule) → Rising 0 rs → (first rs ≡ n) ↔ Foremost n rs
 exactly-then n rs r = (exactly n 0 rs r, then n rs)
 

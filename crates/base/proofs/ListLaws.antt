@@ -75,6 +75,7 @@ module _ {A : Type 0} (P : A → Type 0) where
   all-back [] ys a = a
   all-back (x ∷ xs) ys a = all-back xs ys (a .1)
 
+  -- what holds of an element holds of each of its copies
   pub all-alike : (n : ℕ) (x : A) → P x → All P (replicate n x)
   all-alike zero x p = tt
   all-alike (suc n) x p = (p, all-alike n x p)
@@ -123,6 +124,7 @@ keep-alike f g e (x ∷ xs) = λ i. cond (e x i) (x ∷ keep-alike f g e xs i) (
 
 -- ---- bytes
 
+-- what is read of bytes is below 256, also past the end
 pub byte-at : (s : List ℕ) → Bytes s → (i : ℕ) → getD s i 0 < 256
 byte-at [] b i = omega arith
 byte-at (x ∷ s) b zero = b .0

@@ -45,6 +45,7 @@ module _ {A : Type 0} where
       go true h = ap (λ n. g x + n) h
       go false h = zero-add _ ∙ h
 
+  -- a 1 for each element adds up to the length; a 1 for each that passes, to how many are kept
   pub sum-of-ones : (xs : List A) → sum (map (λ x. 1) xs) ≡ length xs
   sum-of-ones [] = refl
   sum-of-ones (x ∷ xs) = omega (arith, sum-of-ones xs)

@@ -24,7 +24,7 @@ dead-front r t (holds e) = ap (λ (n : ℕ). leb 2 (length r) && ltb n 4) (state
 dead-front r t (fails e) =
     ap (λ (x : Bool). x && ltb (le16 (r ++ t) 0) 4) e ∙ sym (ap (λ (x : Bool). x && ltb (le16 r 0) 4) e)
 
--- what is held after a piece, in a buffer that is long enough
+-- reading the filled bytes stops within them
 pub stop-before : (b : List ℕ) (filled : ℕ) → stopFrom (take filled b) 0 ≤ filled
 stop-before b filled = omega (arith, stop-within (take filled b), length-take filled b)
 
@@ -39,14 +39,17 @@ module _ (b : List ℕ) (filled : ℕ) (l : filled ≤ length b) where
   unfolding moved
   moved-is = rw (le-ltb (length b) filled l)
 
+  -- where no more is filled than the buffer has: after the move its front holds what the whole records of the filled bytes leave over
   pub rest-moved : take (heldAfter b filled) (moved b stop filled) ≡ restOf (take filled b)
   rest-moved = ap (take (heldAfter b filled)) moved-is ∙ take-at (restOf (take filled b)) (drop (heldAfter b filled) b) (heldAfter b filled) rest-long
 
+  -- that no record can follow is told by the moved buffer just as by what is left over
   pub dead-moved : deadRest (moved b stop filled) (heldAfter b filled) ≡ deadRest (restOf (take filled b)) (length (restOf (take filled b)))
   dead-moved =
       (λ i. deadRest (moved-is i) (sym rest-long i)) ∙
       dead-front (restOf (take filled b)) (drop (heldAfter b filled) b) (test (leb 2 (length (restOf (take filled b)))))
 
+  -- the move keeps the length of the buffer
   pub moved-long : stop ≤ filled → length (moved b stop filled) ≡ length b
   moved-long s =
       ap length moved-is ∙ length-append (restOf (take filled b)) (drop (heldAfter b filled) b) ∙
@@ -102,6 +105,7 @@ module _ {S : Type 0} (step : S → List ℕ → S) where
       (h : Held S) (b b₁ : List ℕ) (p : Pieces S) → Holding h b p → take (h .held) b₁ ≡ take (h .held) b → h .held ≤ length b₁ → Holding h b₁ p
   filled-up h b b₁ p on same l = record { state = on .state; rest = same ∙ on .rest; dead = on .dead; room = l }
 
+  -- a piece put last is fed to the reading after the pieces before it
   pub fed-last : (p : Pieces S) (qs : List (List ℕ)) (q : List ℕ) → fedAll step p (qs ++ (q ∷ [])) ≡ fed step (fedAll step p qs) q
   fed-last p [] q = refl
   fed-last p (x ∷ qs) q = fed-last (fed step p x) qs q

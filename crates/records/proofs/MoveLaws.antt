@@ -48,10 +48,12 @@ module _ (b : List ℕ) (start : ℕ) where
         let none : end - start ≡ 0 = omega arith in
         ap (λ (k : ℕ). take k (drop start b)) none ∙ sym (drop-of-length-le (take end b) {i = start} (omega (arith, length-take end b)))
 
+    -- where the buffer has the bytes up to end, the move puts those from start on at its front
     pub moved-front : end ≤ length b → front b start (end - start) ≡ moved b start end
     unfolding moved
     moved-front l = rw (le-ltb (length b) end l) (ap (λ (xs : List ℕ). xs ++ drop (end - start) b) (part-either (test (leb start end)) l))
 
+    -- an end past the buffer moves nothing
     pub moved-short : length b < end → b ≡ moved b start end
     unfolding moved
     moved-short h = rw (lt-ltb (length b) end h) refl
@@ -68,6 +70,7 @@ module _ (b₀ : List ℕ) (start end : ℕ) where
   moving-begins = record { place = omega arith; few = omega arith; size = refl; bytes = refl }
 
   module _ (b : List ℕ) (from to : ℕ) (m : Moving b₀ start end b from to) (l : end ≤ length b₀) where
+    -- a turn: the byte at `from` is copied to `to`, and both go on by one
     pub moving-on : from < end → Moving b₀ start end (set b to (getD b from 0)) (from + 1) (to + 1)
     moving-on h =
         let p = m .place in
@@ -78,6 +81,7 @@ module _ (b₀ : List ℕ) (start end : ℕ) where
           bytes = (λ i. set (m .bytes i) to (getD (m .bytes i) (m .place i) 0)) ∙ front-more b₀ start to (omega arith);
         }
 
+    -- at the end the buffer is the moved one
     pub moving-ends : end ≤ from → b ≡ moved b₀ start end
     moving-ends h =
         let all : to ≡ end - start = omega (arith, m .place, m .few) in

@@ -47,10 +47,12 @@ module _ {S : Type 0} (step : S → List ℕ → S) where
     left : restOf so-far ≡ p .rest ++ unheld
     why : (unheld ≡ []) ⊎ Dead (p .rest)
 
+  -- behind a stated length below 4 a piece changes nothing
   pub fed-dead : (p : Pieces S) (q : List ℕ) → Dead (p .rest) → fed step p q ≡ p
   unfolding fed
   fed-dead p q d = rw d
 
+  -- else the records of what was held with the piece behind it are taken, and what they leave over is held
   pub fed-more :
       (p : Pieces S) (q : List ℕ) → deadRest (p .rest) (length (p .rest)) ≡ false →
       fed step p q ≡ record { state = takeAll step (p .state) (recordsOf (p .rest ++ q)); rest = restOf (p .rest ++ q) }

@@ -55,6 +55,7 @@ module _ {S : Type 0} (step : S → List ℕ → S) (refused : S → ℕ) (st₀
       next-start : next .start ≡ stand .end
       next-start = stand-at bytes (stand .end) next there
 
+      -- past a record fewer bytes are left to read
       pub going-nearer : length bytes - next .start < length bytes - stand .start
       going-nearer = let p = passed bytes (stand .start) (which-here ∙ one) in omega (arith, p .2, p .3, next-start, after-here)
 

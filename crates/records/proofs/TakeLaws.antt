@@ -54,11 +54,12 @@ module _
     (answer : S → List ℕ → ℕ)
     (counts : (st : S) (s : List ℕ) → refused (step st s) ≡ refused st + oneIfRefused (answer st s))
   where
-    -- at most every record is refused, and there are fewer of them than bytes
+    -- at most every record is refused, and there are no more of them than bytes
     refused-at-most : (st : S) (ss : List (List ℕ)) → refused (takeAll step st ss) ≤ refused st + length ss
     refused-at-most st [] = omega arith
     refused-at-most st (s ∷ ss) = omega (arith, refused-at-most (step st s) ss, counts st s, one-at-most (answer st s))
 
+    -- the records of a file add at most as many refusals as it has bytes
     pub refused-below : (st : S) (file : List ℕ) → refused (takeAll step st (recordsOf file)) ≤ refused st + length file
     refused-below st file = omega (arith, refused-at-most st (recordsOf file), few-records file)
 

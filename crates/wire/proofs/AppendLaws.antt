@@ -64,6 +64,7 @@ records-step book =
 records-one : (book : List ℕ) → wholeInFront book ≡ true → recordsOf book ≡ take (le16 book 0) book ∷ recordsOf (drop (le16 book 0) book)
 records-one book w = records-step book ∙ ap (λ (t : Bool). cond t (take (le16 book 0) book ∷ recordsOf (drop (le16 book 0) book)) []) w
 
+-- with no whole record in front there are no records
 pub records-none : (book : List ℕ) → wholeInFront book ≡ false → recordsOf book ≡ []
 records-none book w = records-step book ∙ ap (λ (t : Bool). cond t (take (le16 book 0) book ∷ recordsOf (drop (le16 book 0) book)) []) w
 
@@ -84,6 +85,7 @@ module _ (book : List ℕ) where
   rest-by-records = rest-either (test (leb (stopFrom book 0) (length book)))
 
 module _ (book : List ℕ) where
+  -- with no whole record in front all of the book is left over
   pub rest-none : wholeInFront book ≡ false → drop (stopFrom book 0) book ≡ book
   rest-none w = rest-by-records book ∙ ap (λ (rs : List (List ℕ)). drop (length (joined rs)) book) (records-none book w)
 
@@ -109,6 +111,7 @@ module _ (book : List ℕ) where
       omega arith) ∙
       ap (λ (p : Place). not (eqb (whichOf p) 2)) (sym broken)
 
+  -- nothing is left over exactly where no broken length ends the reading
   pub rest-ends : eqb (length (drop (stopFrom book 0) book)) 0 ≡ not (eqb (endsBy book) 2)
   rest-ends = rest-at (records-stop book)
 
@@ -162,9 +165,11 @@ cuts-in : (k : ℕ) (a b : List ℕ) → length a < k → Cuts a b
 cuts-in zero a b l = let no : ⊥ = omega arith in absurd no
 cuts-in (suc k) a b l = cuts-turn a b (λ t s. cuts-in k t b (omega arith)) (test (wholeInFront a))
 
+-- the records of two parts: those of the first, then those of what it leaves over with the second behind it
 pub records-append : (a b : List ℕ) → recordsOf (a ++ b) ≡ recordsOf a ++ recordsOf (drop (stopFrom a 0) a ++ b)
 records-append a b = cuts-in (suc (length a)) a b (omega arith) .0
 
+-- two parts leave over what the left-over bytes of the first with the second behind them leave over
 pub rest-append : (a b : List ℕ) → drop (stopFrom (a ++ b) 0) (a ++ b) ≡ drop (stopFrom (drop (stopFrom a 0) a ++ b) 0) (drop (stopFrom a 0) a ++ b)
 rest-append a b = cuts-in (suc (length a)) a b (omega arith) .1
 

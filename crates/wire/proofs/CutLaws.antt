@@ -283,6 +283,7 @@ cut-joined-in (r ∷ rs) a (suc k) l =
     ∙ ap (λ (x : List (List ℕ)). r ∷ x) (cut-joined-in rs (a .1) k (omega (arith, four r (joined rs) (a .0), length-append r (joined rs))))
 
 module _ (rs : List (List ℕ)) (a : All Framed rs) where
+  -- framed records that are joined are the records of the book that they make
   pub cut-joined : recordsOf (joined rs) ≡ rs
   unfolding recordsOf
   cut-joined = cut-joined-in rs a (length (joined rs)) (le-refl (length (joined rs)))
@@ -327,6 +328,7 @@ few-in (suc k) book = go (wholeInFront book) (few-in k (drop (le16 book 0) book)
     go true h = omega arith
     go false h = omega arith
 
+-- a book has at most as many records as bytes
 pub few-records : (book : List ℕ) → length (recordsOf book) ≤ length book
 unfolding recordsOf
 few-records book = few-in (length book) book

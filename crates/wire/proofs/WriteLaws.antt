@@ -37,6 +37,7 @@ two-low a b h k = omega arith
 two-high : (a b : ℕ) → a < 256 → b < 256 → (a + b * 256) / 256 % 256 ≡ b
 two-high a b h k = omega arith
 
+-- the number that two bytes make is written as these two
 pub le2-written : (a b : ℕ) → a < 256 → b < 256 → le2 (a + b * 256) ≡ a ∷ b ∷ []
 le2-written a b h k = λ i. two-low a b h k i ∷ two-high a b h k i ∷ []
 
@@ -56,5 +57,6 @@ module _ (a b c d : ℕ) (ha : a < 256) (hb : b < 256) (hc : c < 256) (hd : d < 
   byte-3 : four / 65536 / 256 % 256 ≡ d
   byte-3 = omega arith
 
+  -- the number that four bytes make is written as these four
   pub le4-written : le4 (a + b * 256 + c * 65536 + d * 16777216) ≡ a ∷ b ∷ c ∷ d ∷ []
   le4-written = λ i. byte-0 i ∷ byte-1 i ∷ byte-2 i ∷ byte-3 i ∷ []
