@@ -18,9 +18,11 @@ use Rattle.annex.specs.Figure.{Off, Halves}
 use Rattle.annex.specs.Inside.{Few, Timely, Ready, Within, Ordered}
 use Rattle.annex.proofs.FoldLaws.{each-level, simple-customers, simple-halves, stepped-customers, stepped-halves}
 
+-- the count of each level is at most m
 pub few-at : {m : ℕ} {n : List ℕ} → Few m n → (h : ℕ) → h < levels → getD n h 0 ≤ m
 few-at few = each-level _ (few .nn) (few .vn) (few .vvn)
 
+-- before its first step an outage has no more half minutes than its time allows
 pub timely-begun : (t0 : ℕ) → Timely (begun t0)
 timely-begun t0 = record { nn = omega arith; vn = omega arith; vvn = omega arith }
 
@@ -31,6 +33,7 @@ step-timely h n before time p q r =
     omega arith
 
 module _ (c : Course) (s : Step) (t : Timely c) (order : c .last ≤ s .time) where
+  -- nor has it after a step, in order and with counts of 32 bits
   pub timely-step : Few 4294967295 (s .counts) → Timely (coursed c s)
   unfolding withStep
   timely-step few =
@@ -40,9 +43,11 @@ module _ (c : Course) (s : Step) (t : Timely c) (order : c .last ≤ s .time) wh
         vvn = step-timely _ _ (c .last) (s .time) (t .vvn) (few .vvn) order;
       }
 
+  -- a step in order, at 600,000 at the latest, may follow
   pub timely-ready : s .time ≤ 600000 → Ready c s
   timely-ready ends = record { room = record { nn = omega arith; vn = omega arith; vvn = omega arith }; order = order; ends = ends }
 
+-- a simple event in order, with counts of at most 10,000,000, adds no more to a level than one event may
 pub simple-within : (e : Simple) → InOrder e → Few 10000000 (e .n1) → Few 10000000 (e .n2) → (h : ℕ) → h < levels → Within (simpleFigures e) h
 simple-within e o few1 few2 h l Off = omega (arith, simple-customers e h l, few-at few1 h l)
 simple-within e o few1 few2 h l Halves =
@@ -71,6 +76,7 @@ module _ (h : ℕ) (l : h < levels) where
       let one : getD (s .counts) h 0 * (s .time - before) ≤ 10000000 * (s .time - before) = mul-le-mul-right (s .time - before) (few-at (few .0) h l) in
       omega (arith, weighed-within (s .time) ss (o .1) (o .2) (few .1))
 
+-- nor does a stepped one, begun by 600,000, with its steps in order and such counts
 pub stepped-within :
     (t0 : ℕ) (ss : List Step) →
     t0 ≤ 600000 →

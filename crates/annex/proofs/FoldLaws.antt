@@ -25,11 +25,13 @@ each-level P nn vn vvn (suc zero) l = vn
 each-level P nn vn vvn (suc (suc zero)) l = vvn
 each-level P nn vn vvn (suc (suc (suc h))) l = absurd (omega arith)
 
+-- `nothing` has 0 of each figure on each level
 pub nothing-gives : (x : Figure) (h : ℕ) → h < levels → figureAt x nothing h ≡ 0
 nothing-gives Off = each-level _ refl refl refl
 nothing-gives Halves = each-level _ refl refl refl
 
 module _ (f : Figures) (counts : List ℕ) (minutes : ℕ) where
+  -- one step more: the larger of the customers before and its count; and twice its count times its minutes more
   pub step-customers : (h : ℕ) → h < levels → customersAt (withStep f counts minutes) h ≡ max (customersAt f h) (getD counts h 0)
   unfolding withStep
   step-customers = each-level _ refl refl refl
@@ -49,6 +51,7 @@ course-snoc c [] s = refl
 course-snoc c (x ∷ ss) s = course-snoc (coursed c x) ss s
 
 module _ (h : ℕ) (l : h < levels) where
+  -- any steps more: the largest of the customers before and their counts; and twice the sum of count times duration more
   pub course-customers : (c : Course) (ss : List Step) → customersAt (coursedAll c ss .figures) h ≡ max (customersAt (c .figures) h) (largest (countsOf h ss))
   course-customers c [] = omega arith
   course-customers c (s ∷ ss) = rw (course-customers _ ss, step-customers) (omega arith)
@@ -66,6 +69,7 @@ module _ (h : ℕ) (l : h < levels) where
   stepped-halves t0 ss = omega (arith, course-halves (begun t0) ss, nothing-gives Halves h l)
 
 module _ (e : Simple) where
+  -- a simple event: n1, and 01's half minutes of n1 and n2
   pub simple-customers : (h : ℕ) → h < levels → customersAt (simpleFigures e) h ≡ getD (e .n1) h 0
   unfolding simpleFigures
   simple-customers = each-level _ refl refl refl

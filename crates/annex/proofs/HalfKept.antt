@@ -49,6 +49,7 @@ nobody-in-steps h before (s ∷ ss) z =
     let rest : weighed h (s .time) ss ≡ 0 = nobody-in-steps h (s .time) ss (omega arith) in
     rw (none, rest) (omega arith)
 
+-- a level with no customers interrupted has no half minutes, where nobody is off later if nobody was at first
 pub nobody-no-halves : (h : ℕ) (e : Event) → NoneAfterNone h e → njh h e ≡ 0 → njhtjh2 h e ≡ 0
 unfolding njh njhtjh2
 nobody-no-halves h (simple e) after z = rw (z, after z) (omega arith)

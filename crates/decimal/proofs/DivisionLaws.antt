@@ -9,6 +9,7 @@ use Rattle.decimal.specs.declared.Digit.{Digit}
 use Rattle.decimal.specs.declared.Division.{Division}
 use Rattle.decimal.specs.Decimal.{splitAt, Tenfold, Divided}
 
+-- k + 1 times a number is k times it, and once more
 pub one-more-time : (k x : ℕ) → (k + 1) * x ≡ k * x + x
 one-more-time k x = rw add-one (suc-mul k x)
 
@@ -16,6 +17,7 @@ pub ten-power-pos : (k : ℕ) → 0 < 10 ^ k
 ten-power-pos k = let h : 10 ^ 0 ≤ 10 ^ k = pow-le-pow-right {n = 10} (omega arith) {i = 0} {j = k} (omega arith) in omega arith
 
 module _ (m d k : ℕ) (x : Division) (h : Divided m d k x) where
+  -- a division with k digits, and ten times its rest divided: the division with k + 1 digits
   pub digit-more :
       (t : Digit) → Tenfold (x .rest) d t →
       Divided m d (k + 1) (record { power = x .power * 10; digits = x .digits * 10 + t .digit; rest = t .rest })
@@ -31,6 +33,7 @@ module _ (m d k : ℕ) (x : Division) (h : Divided m d k x) where
       let c : x .digits * 10 * d ≡ x .digits * d * 10 = mul-right-comm (x .digits) 10 d in
       record { power = omega arith; split = omega arith; less = s .less; fits = omega arith }
 
+  -- of up to six digits the power is at most a million, and the digits are below a million
   pub six-digits-small : k ≤ 6 → (x .power ≤ 1000000) × (x .digits < 1000000)
   six-digits-small l =
       let f : x .power ≡ 10 ^ k = h .power in
@@ -38,6 +41,7 @@ module _ (m d k : ℕ) (x : Division) (h : Divided m d k x) where
       let g : 10 ^ k ≤ 10 ^ 6 = pow-le-pow-right {n = 10} (omega arith) l in
       (omega arith, omega arith)
 
+-- digits below the power are split off as they are; as many as the power are one whole more and no digits
 pub split-under : (whole power digits : ℕ) → digits < power → splitAt (whole * power + digits) power ≡ record { whole = whole; digits = digits }
 split-under whole power digits l = λ i. record { whole = digits-div whole l i; digits = digits-mod whole l i }
 

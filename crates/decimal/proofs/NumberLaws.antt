@@ -15,6 +15,7 @@ use Rattle.decimal.specs.declared.Shown.{Shown}
 use Rattle.decimal.specs.declared.Shown.the-variants.{Is, Refused}
 use Rattle.decimal.specs.Decimal.{decimalOf, shownOf, decimally, shownRules, numbersBy, answerNumber, shownNumbers}
 
+-- two answers of the same numbers are the same
 pub decimally-decides : (a b : Shown) → decimally a ≡ decimally b → a ≡ b
 decimally-decides (Is d) (Is e) p =
     let whole : d .whole ≡ e .whole = ap (λ (ns : List ℕ). getD ns 1 0) p in
@@ -37,6 +38,7 @@ module _ (rules : List Rule) (values : List ℕ) where
   numbers-exactly rising n = subst (λ (m : ℕ). (m ≡ n) ↔ Foremost n rules) (sym numbers-first) (exactly-then n rules rising)
 
 module _ (f : Fraction) (k : ℕ) where
+  -- a fraction's decimal has the numbers that its rules give
   pub shown-numbers : decimally (shownOf f k) ≡ shownNumbers f k
   unfolding shownOf shownNumbers
   shown-numbers = go (eqb (f .bottom) 0) (ltb 6 k)
@@ -49,9 +51,11 @@ module _ (f : Fraction) (k : ℕ) where
       go false true = refl
       go false false = refl
 
+  -- what has these numbers is the decimal
   pub shown-is : (r : Shown) → decimally r ≡ shownNumbers f k → r ≡ shownOf f k
   shown-is r e = decimally-decides r (shownOf f k) (e ∙ sym shown-numbers)
 
+  -- a number is answered exactly where its rule applies and none before it does, and 0 exactly where none applies
   pub shown-exactly : (n : ℕ) → (answerNumber (shownNumbers f k) ≡ n) ↔ Foremost n (shownRules f k)
   unfolding shownNumbers
   shown-exactly = numbers-exactly (shownRules f k) (decimalOf f k .whole ∷ decimalOf f k .digits ∷ []) (tt, (tt, tt))

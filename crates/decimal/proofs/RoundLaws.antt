@@ -103,10 +103,12 @@ module _ (f : Fraction) (k : ℕ) (x : Division) (h : Divided (f .top % f .botto
       (half-upward (f .top) (f .bottom) k units (x .rest) units-split (h .less) l ∙ add-assoc (f .top / f .bottom * 10 ^ k) (x .digits) 1) ∙
       (λ i. splitAt (f .top / f .bottom * sym (h .power) i + (x .digits + 1)) (sym (h .power) i))
 
+-- the k digits after the whole part are below 10^k
 pub digits-below : (f : Fraction) (k : ℕ) → decimalOf f k .digits < 10 ^ k
 unfolding decimalOf
 digits-below f k = mod-lt (rounded (f .top) (f .bottom) k) (ten-power-pos k)
 
+-- whole part and digits are together the rounded number of units
 pub decimal-value : (f : Fraction) (k : ℕ) →
     decimalOf f k .whole * 10 ^ k + decimalOf f k .digits ≡ rounded (f .top) (f .bottom) k
 unfolding decimalOf
@@ -121,6 +123,7 @@ lowest-decimal n d k p =
     let near = lowest-nearest n d k (rounded (f .top) (f .bottom) k) p (rounded-nearest (f .top) (f .bottom) k (omega arith)) in
     ap (λ (v : ℕ). splitAt v (10 ^ k)) (nearest-unique n d k (rounded (f .top) (f .bottom) k) (rounded n d k) near (rounded-nearest n d k p))
 
+-- without a bottom 17; else with more than 6 digits 18; else the decimal
 pub no-bottom-17 : (f : Fraction) (k : ℕ) → f .bottom ≡ 0 → shownOf f k ≡ Refused 17
 unfolding shownOf
 no-bottom-17 f k e = rw (eq-eqb (f .bottom) 0 e) refl

@@ -39,9 +39,11 @@ sum-of-three f (suc n) =
     across Off = omega arith
     across Halves = omega arith
 
+-- over all types the network's sums are those of the types together
 pub types-add-up : (rs : List TypeRow) → totalOf rs Network All ≡ sumTo (typeSum rs) rows
 types-add-up rs = (λ i. overLevels (λ h. level-adds-types rs h i)) ∙ sum-of-three (cellAt rs) rows
 
+-- the compliance figures and those of the types that they leave out are together those of all: of a level by its number
 pub level-std-and-rest : (rs : List TypeRow) (h : ℕ) → plusCell (levelSum rs h Std) (levelRest rs h) ≡ levelSum rs h All
 unfolding levelSum levelRest rowHeld
 level-std-and-rest rs h = by-figures _ _ both
@@ -58,6 +60,7 @@ two-by-two f g = by-figures _ _ both
     both Off = omega arith
     both Halves = omega arith
 
+-- and of a level or the network
 pub std-and-rest : (rs : List TypeRow) (level : Level) → plusCell (totalOf rs level Std) (restOf rs level) ≡ totalOf rs level All
 std-and-rest rs NN = level-std-and-rest rs 0
 std-and-rest rs VN = level-std-and-rest rs 1

@@ -30,6 +30,7 @@ use Rattle.index.specs.Index.{formulaOf, weightOf, dividedBy, indexOf}
 use Rattle.index.specs.Answered.{Way, unsound, sheetless, divides-by-nobody, answered, Given, Exact}
 
 module _ (l : Ledger) (index : Index) (level : Level) (set : Set) where
+  -- an unsound ledger is refused with 1, then no sheet with 5, then nobody to divide by with 17; else the formula in lowest terms
   pub unsound-refused : soundLedger l ≡ false → indexOf l index level set ≡ Refused 1
   unfolding indexOf
   unsound-refused s = rw s
@@ -80,6 +81,7 @@ module _ (l : Ledger) (index : Index) (level : Level) (set : Set) (f : Fraction)
   refuses-no-fraction : (n : ℕ) → indexOf l index level set ≡ Refused n → ⊥
   refuses-no-fraction n r = let z : _≡_ {A = ℕ} 0 1 = cc in omega arith
 
+  -- where the answer is a fraction: the ledger is sound and has a sheet, the index divides by somebody, and f is the formula in lowest terms
   pub fraction-says : Given l index level set f
   fraction-says = go (index-exactly l index level set)
     where
@@ -89,6 +91,7 @@ module _ (l : Ledger) (index : Index) (level : Level) (set : Set) (f : Fraction)
       go (divides-by-nobody s t n r) = absurd (refuses-no-fraction 17 r)
       go (answered s t n r) = record { sound = s; there = t; somebody = n; is = cc }
 
+  -- it is in lowest terms and of the formula's value, which exists
   pub index-exact : Exact l index level set f
   index-exact =
       let formula = formulaOf l index level set in

@@ -32,6 +32,7 @@ use Rattle.index.specs.Index.{formulaOf, dividedBy, indexRules, decimalR
 use Rattle.index.specs.Answered.{Way, unsound, sheetless, divides-by-nobody, answered, Rounded}
 use Rattle.index.proofs.IndexLaws.{weighted-exists, index-exactly}
 
+-- two answers of the same numbers are the same
 pub exactly-decides : (a b : Answer) → exactly a ≡ exactly b → a ≡ b
 exactly-decides (Is f) (Is g) p =
     let top : f .top ≡ g .top = ap (λ (ns : List ℕ). getD ns 1 0) p in
@@ -48,6 +49,7 @@ module _ (l : Ledger) (index : Index) (level : Level) (set : Set) where
   abbrev lowest : Fraction
   lowest = lowestOf (formula .top) (formula .bottom)
 
+  -- an index has the numbers that its rules give
   pub index-numbers : exactly (indexOf l index level set) ≡ indexNumbers l index level set
   unfolding indexOf indexNumbers
   index-numbers = go (eqb (first (indexRules l index level set)) 0) (first (indexRules l index level set))
@@ -63,6 +65,7 @@ module _ (l : Ledger) (index : Index) (level : Level) (set : Set) where
   pub index-is : (r : Answer) → exactly r ≡ indexNumbers l index level set → r ≡ indexOf l index level set
   index-is r e = exactly-decides r (indexOf l index level set) (e ∙ sym index-numbers)
 
+  -- a number is answered exactly where its rule applies and none before it does, and 0 exactly where none applies
   pub index-exactly-then : (n : ℕ) → (answerNumber (exactly (indexOf l index level set)) ≡ n) ↔ Foremost n (indexRules l index level set)
   unfolding indexNumbers
   index-exactly-then n =
@@ -84,6 +87,7 @@ module _ (l : Ledger) (index : Index) (level : Level) (set : Set) where
       (λ i. numbersBy ((17, none i) ∷ (18, ltb 6 digits) ∷ []) (same i .whole ∷ same i .digits ∷ []))
 
   module _ (digits : ℕ) where
+    -- the decimal has the numbers that its rules give
     pub decimal-numbers : decimally (shownIndex l index level set digits) ≡ decimalNumbers l index level set digits
     unfolding indexOf decimalNumbers
     decimal-numbers = go (not (soundLedger l)) (not (l .sheet .there)) (eqb (dividedBy l index level set) 0) refl
@@ -101,9 +105,11 @@ module _ (l : Ledger) (index : Index) (level : Level) (set : Set) where
         go false false true e = refl
         go false false false e = shown-lowest digits (eqb-false _ _ e)
 
+    -- what has these numbers is the decimal
     pub decimal-is : (r : Shown) → decimally r ≡ decimalNumbers l index level set digits → r ≡ shownIndex l index level set digits
     decimal-is r e = decimally-decides r (shownIndex l index level set digits) (e ∙ sym decimal-numbers)
 
+    -- a number is answered exactly where its rule applies and none before it does, and 0 exactly where none applies
     pub decimal-exactly-then :
         (n : ℕ) → (answerNumber (decimally (shownIndex l index level set digits)) ≡ n) ↔ Foremost n (decimalRules l index level set digits)
     unfolding decimalNumbers

@@ -27,14 +27,17 @@ pub within-fit : (m n : ℕ) (a b : Cell) → Within m a → Within n b → m + 
 within-fit m n a b p q l Off = omega (arith, p Off, q Off)
 within-fit m n a b p q l Halves = omega (arith, p Halves, q Halves)
 
+-- two sums, within the bounds of m and of n cells, are together within those of m + n
 pub plus-within : (m n : ℕ) (a b : Cell) → Within m a → Within n b → Within (m + n) (plusCell a b)
 plus-within m n a b p q Off = omega (arith, p Off, q Off)
 plus-within m n a b p q Halves = omega (arith, p Halves, q Halves)
 
+-- a cell with room for one event more is within the bounds of one cell
 pub one-within : (c : Cell) → Spare c → Within 1 c
 one-within c s Off = omega (arith, s Off)
 one-within c s Halves = omega (arith, s Halves)
 
+-- n such cells are together within the bounds of n
 pub sum-within : (f : ℕ → Cell) → ((i : ℕ) → Spare (f i)) → (n : ℕ) → Within n (sumTo f n)
 sum-within f low zero Off = omega arith
 sum-within f low zero Halves = omega arith
@@ -47,9 +50,11 @@ held-or-spare false c s Off = omega arith
 held-or-spare false c s Halves = omega arith
 
 module _ (rs : List TypeRow) (low : Low rs) (h : ℕ) (set : Set) where
+  -- where every cell has room, so has each with those that the set leaves out taken as empty
   pub held-spare : (row : ℕ) → Spare (heldCell rs h set row)
   held-spare row = held-or-spare (rowHeld set row) (cellAt rs h row) (low h row)
 
+  -- and a level's sum is within the bounds of as many cells as there are rows
   pub level-within : Within rows (levelSum rs h set)
   unfolding levelSum
   level-within = sum-within (heldCell rs h set) held-spare rows

@@ -19,6 +19,7 @@ pub record IsGcd (a b g : ℕ) : Type 0 where
   pub right : g ∣ b
   pub most : (d : ℕ) → d ∣ a → d ∣ b → d ∣ g
 
+-- of a number and 0 the greatest common divisor is the number
 pub gcd-with-zero : (x : ℕ) → IsGcd x 0 x
 gcd-with-zero x = record { left = dvd-refl x; right = dvd-zero x; most = λ d p q. p }
 
@@ -47,6 +48,7 @@ unfolding euclid
 euclid-is zero x y h = absurd (not-suc-le-zero h)
 euclid-is (suc k) x y h = euclid-step k x y h (λ p. euclid-is k y (x % y) p) (eqb y 0) refl
 
+-- Euclid's rule comes to the greatest common divisor
 pub gcd-is : (a b : ℕ) → IsGcd a b (gcdOf a b)
 unfolding gcdOf
 gcd-is a b = euclid-is (suc b) a b (omega arith)
@@ -54,9 +56,11 @@ gcd-is a b = euclid-is (suc b) a b (omega arith)
 pub gcd-pos : (n d : ℕ) → 0 < d → 0 < gcdOf n d
 gcd-pos n d p = pos-of-dvd-of-pos (gcd-is n d .right) p
 
+-- a part divided by the greatest common divisor, and times it, is the part again
 pub parts-times-gcd : (n d : ℕ) → (n / gcdOf n d * gcdOf n d ≡ n) × (d / gcdOf n d * gcdOf n d ≡ d)
 parts-times-gcd n d = (div-mul-cancel (gcdOf n d) (gcd-is n d .left), div-mul-cancel (gcdOf n d) (gcd-is n d .right))
 
+-- brought to lowest terms a fraction keeps its value, and is in lowest terms where its bottom is above 0
 pub lowest-same : (n d : ℕ) → Same (lowestOf n d) (record { top = n; bottom = d })
 unfolding lowestOf
 lowest-same n d =
@@ -105,6 +109,7 @@ coprime-divides a b k p alone h =
     let f : g ≡ k = sym e ∙ ap (λ (x : ℕ). x * k) one ∙ one-mul k in
     rw f at (is .most b h (dvd-mul-right b k))
 
+-- two fractions in lowest terms of one value are the same
 pub lowest-unique : (f g : Fraction) → Lowest f → Lowest g → Same f g → f ≡ g
 lowest-unique f g l m s =
     let positive : (h : Fraction) → Lowest h → 0 < h .bottom = λ h n. (let z : h .bottom ≡ 0 → ⊥ = n .exists in omega arith) in
@@ -116,6 +121,7 @@ lowest-unique f g l m s =
     let t : f .top ≡ g .top = eq-of-mul-eq-mul-right (g .bottom) (positive g m) (f .top) (g .top) (s ∙ ap (λ (x : ℕ). g .top * x) b) in
     λ i. record { top = t i; bottom = b i }
 
+-- where d is above 0, what is in lowest terms and of the value of n / d is what n / d is brought to
 pub lowest-decides : (n d : ℕ) → 0 < d → (f : Fraction) → Lowest f → Same f (record { top = n; bottom = d }) → f ≡ lowestOf n d
 lowest-decides n d p f l s =
     lowest-unique f (lowestOf n d) l (lowest-lowest n d p)
