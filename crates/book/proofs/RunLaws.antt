@@ -58,10 +58,12 @@ refusedIn st = st .refused
 abbrev pub answerIn : BookState → List ℕ → ℕ
 answerIn st s = answerOf (st .ledger) (st .map) s
 
+-- a record adds 1 to them where it is refused, and else 0
 pub refused-counted : (st : BookState) (s : List ℕ) → refusedIn (takeRecord st s) ≡ refusedIn st + oneIfRefused (answerIn st s)
 unfolding takeRecord
 refused-counted st s = refl
 
+-- of a book at most as many records are refused as it has bytes
 pub refused-below : (l : Ledger) (m book : List ℕ) → afterBook l m book .refused ≤ length book
 refused-below l m book = omega (arith, all.refused-below takeRecord refusedIn answerIn refused-counted (starting l m) book)
 
@@ -73,6 +75,7 @@ pub record Going (l₀ : Ledger) (m₀ book : List ℕ) (l : Ledger) (m : List �
   pub rows-there : length (l .rows) ≡ rows
 
 module _ (l₀ : Ledger) (m₀ book : List ℕ) where
+  -- the loop begins at offset 0 with a sound ledger of all rows and a map of 8,192 bytes
   pub going-begins :
       (stand : Stand) →
       stand ≡ standOf (placeAt book 0) 0 →
@@ -117,12 +120,14 @@ module _ (l₀ : Ledger) (m₀ book : List ℕ) where
 
 -- the two ways that a whole book goes
 module _ (l : Ledger) (m book : List ℕ) where
+  -- an unsound ledger or a map of another size: answer 1, and ledger and map as they were
   pub read-nothing :
       unsound l m ≡ true →
       (readOf l m book ≡ record { answer = 1; ledger = l; refused = 0; broken = false }) × (mapRead l m book ≡ m)
   unfolding readOf mapRead
   read-nothing u = (rw u, rw u)
 
+  -- else answer 0, and what the whole records come to, with a broken length counted as one refusal more
   pub read-through :
       unsound l m ≡ false →
       (readOf l m book ≡

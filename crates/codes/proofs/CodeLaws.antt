@@ -49,6 +49,7 @@ level-at-most voltage = go (eqb voltage 1) (leb 2 voltage && leb voltage 6) (eqb
     go false false true = omega arith
     go false false false = omega arith
 
+-- 0, not recorded, counts as listed
 pub cause-zero : causeListed 0 ≡ true
 unfolding causeListed causes
 cause-zero = refl
@@ -103,6 +104,7 @@ fault-row (suc (suc (suc (suc zero)))) l = refl
 fault-row (suc (suc (suc (suc (suc zero))))) l = refl
 fault-row (suc (suc (suc (suc (suc (suc k)))))) l = absurd (omega arith)
 
+-- types 11 to 16 have the rows 0 to 5, type 2 has row 6, and any other number has the row past the last
 pub row-of-fault : (typ : ℕ) → 11 ≤ typ → typ ≤ 16 → rowOf typ ≡ typ - 11
 row-of-fault typ a b =
     let e : typ ≡ 11 + (typ - 11) = omega arith in

@@ -14,6 +14,7 @@ use Rattle.fields.specs.declared.Sheet.{Sheet}
 use Rattle.fields.specs.declared.Head.{Head}
 use Rattle.fields.specs.Tests.{inRange, headListed}
 
+-- a sheet in range has at most 10,000,000 customers on each level
 pub range-few : (sheet : Sheet) → inRange sheet ≡ true → Few 10000000 (sheet .totals)
 range-few sheet e =
     let k =
@@ -32,6 +33,7 @@ tests-of :
 tests-of h =
     each-holds (not (eqb (h .number) 0)) (ltb (rowOf (h .typ)) rows ∷ ltb (levelOf (h .voltage)) levels ∷ causeListed (h .cause) ∷ [])
 
+-- of a head that is listed the number is not 0, the type has a row and the voltage a level
 pub listed-number : (h : Head) → headListed h ≡ true → h .number ≡ 0 → ⊥
 listed-number h e = eqb-false _ _ (not-true _ (tests-of h e .0))
 

@@ -32,6 +32,7 @@ use Rattle.ledger.specs.Ledger.{noCell, noRow, emptyRow, emptyLedger, he
 abbrev pub grownWith : Figures → Cell → ℕ → Cell
 grownWith f c h = grownBy c (getD (f .customers) h (customers 0)) (getD (f .halves) h (halfMinutes 0))
 
+-- a grown cell holds of each figure what it held, and the level's figure more
 pub grown-holds : (x : Figure) (f : Figures) (c : Cell) (h : ℕ) → held x (grownWith f c h) ≡ held x c + figureAt x f h
 grown-holds Off f c h = refl
 grown-holds Halves f c h = refl
@@ -39,6 +40,7 @@ grown-holds Halves f c h = refl
 by-nothing : (c : Cell) → grownBy c (customers 0) (halfMinutes 0) ≡ c
 by-nothing c = λ i. record { customers = customers (add-zero (c .customers .0) i); halves = halfMinutes (add-zero (c .halves .0) i) }
 
+-- a cell made of so much of each figure holds so much of it
 pub held-by : (f : Figure → ℕ) (x : Figure) → held x (cellBy f) ≡ f x
 held-by f Off = refl
 held-by f Halves = refl
@@ -70,6 +72,7 @@ module _ (r : TypeRow) (f : Figures) where
   row-length : length (grownRow r f .levels) ≡ length (r .levels)
   row-length = simp length-set
 
+  -- each cell of a grown row is the cell before with its level's figures added
   pub row-grown : length (r .levels) ≡ levels → (h : ℕ) → h < levels → getD (grownRow r f .levels) h noCell ≡ grownWith f (getD (r .levels) h noCell) h
   row-grown n =
       let l₁ : length one ≡ levels = length-set (r .levels) 0 _ ∙ n in
@@ -113,6 +116,7 @@ pub added-refused : (l : Ledger) (n : ℕ) → added l (refusedWith (l .sheet) n
 unfolding added
 added-refused l n = added-sheet l (l .sheet)
 
+-- adding a verdict keeps the number of rows
 pub added-rows : (l : Ledger) (v : Verdict) → length (added l v .rows) ≡ length (l .rows)
 unfolding added
 added-rows l v = length-set (l .rows) (v .row) _

@@ -77,10 +77,12 @@ module _ (l : Ledger) (e : soundLedger l ≡ true) where
   pub sound-bound : (x : Figure) (row h : ℕ) → heldIn x l row h ≤ l .events * mostOf x
   sound-bound x row h = within-bound (l .events) _ (sound-cell row h) x
 
+  -- each cell has room for one event more
   pub sound-spare : (row : ℕ) → SpareRow (getD (l .rows) row noRow .levels)
   sound-spare row h Off = omega (arith, sound-bound Off row h, sound-events)
   sound-spare row h Halves = omega (arith, sound-bound Halves row h, sound-events)
 
+  -- a sheet that is there is in range
   pub sound-range : l .sheet .there ≡ true → inRange (l .sheet) ≡ true
   sound-range t = in-range (l .sheet .there) (inRange (l .sheet)) _ t sound-sheet
 

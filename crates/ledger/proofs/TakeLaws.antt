@@ -43,12 +43,15 @@ module _ (l : Ledger) (m s : List ℕ) where
       go (holds e) = absurd (omega (arith, a, answer-1 e))
       go (fails e) = e
 
+  -- judging the record answers 0 too
   pub accepted-record : answerOf l m s ≡ 0 → recordAnswer s (l .sheet) m (l .events) ≡ 0
   accepted-record a = sym (answer-judged (accepted-sound a)) ∙ a
 
+  -- its verdict is what an accepted record of its kind comes to
   pub accepted-verdict : answerOf l m s ≡ 0 → verdict ≡ acceptedAt (kindOf s) s (l .sheet)
   accepted-verdict a = verdict-accepted s (l .sheet) m (l .events) (accepted-record a)
 
+  -- the verdict is added to the ledger, and its number marked in the map
   pub accepted-adds : answerOf l m s ≡ 0 → (ledgerAfter l m s ≡ added l verdict) × (mapAfter l m s ≡ markedWith m (verdict .number))
   unfolding ledgerAfter mapAfter
   accepted-adds a = (ap (λ t. cond t (added l verdict) l) (eq-eqb _ _ a), ap (λ t. cond t (markedWith m (verdict .number)) m) (eq-eqb _ _ a))

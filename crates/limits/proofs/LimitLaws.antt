@@ -21,6 +21,7 @@ use Rattle.annex.specs.Inside.{Few, Ordered}
 use Rattle.annex.proofs.FoldLaws.{each-level}
 use Rattle.limits.specs.Limits.{exceeding, lateStep, anyLate, simpleLate, noneThenSome}
 
+-- a time that breaks no rule is not before the one before it, and at most 600,000
 pub in-time : (before time : ℕ) → lateStep before time ≡ false → (before ≤ time) × (time ≤ 600000)
 in-time before time e =
     (ltb-false _ _ (or-left (ltb time before) (ltb 600000 time) e), ltb-false _ _ (or-right (ltb time before) (ltb 600000 time) e))
@@ -35,6 +36,7 @@ late-ordered t0 (s ∷ ss) e =
       late-ordered (s .time) ss (or-right (lateStep t0 (s .time)) (anyLate (s .time) ss) e),
     )
 
+-- a simple event of which no time breaks a rule is in order
 pub simple-ordered : (typ : ℕ) (e : Simple) → simpleLate typ e ≡ false → InOrder e
 simple-ordered typ e f =
     let k =
@@ -65,6 +67,7 @@ none-after-none e f =
         omega (arith, ltb-false 0 (getD (e .n2) h 0) later)
 
 module _ {m : ℕ} {totals : List ℕ} (few : Few m totals) where
+  -- where level totals are at most m, counts that do not exceed them are so too: one list of counts, and those of all steps
   pub within-totals : (counts : List ℕ) → exceeding totals counts ≡ false → Few m counts
   within-totals counts e =
       let k =

@@ -16,6 +16,7 @@ use Rattle.desk_days.proofs.StepByStep as desk
 use Rattle.desk_sums.proofs.SumLaws.{desk-adds}
 use Rattle.mission.specs.Mission.{Demand1, Demand2, Demand3}
 
+-- every record, message and index gets an answer or a numbered refusal; a refused record, message or book changes nothing
 pub demand-1 : Demand1
 demand-1 =
     record {
@@ -29,6 +30,7 @@ demand-1 =
       book-refused = read-nothing;
     }
 
+-- accepted events add the annex's sums, an index is its formula in lowest terms, and outages closed at a desk count as records do
 pub demand-2 : Demand2
 demand-2 =
     record {
@@ -39,6 +41,7 @@ demand-2 =
       step-by-step = desk.step-by-step;
     }
 
+-- customer-minutes are those added by customer, books may be reordered and joined, levels and types add up, CAIDI x SAIFI = SAIDI
 pub demand-3 : Demand3
 demand-3 =
     record {

@@ -50,6 +50,7 @@ nothing-small : (n : ℕ) (x : Figure) (h : ℕ) → h < levels → figureAt x n
 nothing-small n x h l = omega (arith, nothing-gives x h l)
 
 module _ (sheet : Sheet) (events : ℕ) (most : events ≤ 65535) where
+  -- there is room for any refusal, at up to 65,535 events
   pub refused-fair : (n : ℕ) → Fair sheet events (refusedWith sheet n)
   refused-fair n =
       record {
@@ -74,6 +75,7 @@ module _ (sheet : Sheet) (events : ℕ) (most : events ≤ 65535) where
 
 -- an accepted event: short or not
 module _ (sheet : Sheet) (events : ℕ) (h : Head) (end : ℕ) (f : Figures) where
+  -- there is room where the sheet is there, events are below 65,535, the type has a row and the figures are within what one event may add
   pub event-fair : sheet .there ≡ true → events < 65535 → rowOf (h .typ) < rows → ((level : ℕ) → level < levels → Within f level) → Fair sheet events (eventVerdict sheet h end f)
   unfolding eventVerdict
   event-fair there room row within = go (isShort (h .t0) end) refl
@@ -145,6 +147,7 @@ module _ (s : List ℕ) (sheet : Sheet) (m : List ℕ) (events : ℕ) (most : ev
       go (inr (inl e)) = subst (λ k. Fair sheet events (acceptedAt k s sheet)) (sym e) (accepted-simple-fair (subst (λ k. NoRule (rulesAt k s sheet m events)) e c))
       go (inr (inr e)) = subst (λ k. Fair sheet events (acceptedAt k s sheet)) (sym e) (accepted-stepped-fair (subst (λ k. NoRule (rulesAt k s sheet m events)) e c))
 
+  -- with no sheet or one in range, and up to 65,535 events, there is room for the verdict on any record
   pub verdict-fair : Fair sheet events (verdictOf s sheet m events)
   verdict-fair = go (test (eqb (recordAnswer s sheet m events) 0))
     where

@@ -28,6 +28,7 @@ use Rattle.record.specs.Inside.{firstOf, simpleTests, steppedTests, answ
 use Rattle.record.specs.Verdict.{acceptedAt, recordAnswer, verdictOf}
 
 module _ (kind : ℕ) (s : List ℕ) (sheet : Sheet) (m : List ℕ) (events : ℕ) where
+  -- read as a kind: an answer n other than 0 gives the refusal n, and 0 gives what an accepted record of the kind comes to
   pub at-refused : (n : ℕ) → answerAt kind s sheet m events ≡ n → (n ≡ 0 → ⊥) → verdictAt kind s sheet m events ≡ refusedWith sheet n
   unfolding verdictAt
   at-refused n e z =
@@ -49,6 +50,7 @@ accepted-answer kind s sheet = go (eqb kind 1) refl (eqb kind 2) refl
     go false p false q = rw (p, q)
 
 module _ (s : List ℕ) (sheet : Sheet) (m : List ℕ) (events : ℕ) where
+  -- the same by all the rules, with the record's own kind
   pub verdict-refused : (recordAnswer s sheet m events ≡ 0 → ⊥) → verdictOf s sheet m events ≡ refusedWith sheet (recordAnswer s sheet m events)
   unfolding verdictOf
   verdict-refused z = ap (λ t. cond t (acceptedAt (kindOf s) s sheet) (refusedWith sheet (recordAnswer s sheet m events))) (ne-eqb _ _ z)
@@ -69,6 +71,7 @@ module _ (s : List ℕ) (sheet : Sheet) (m : List ℕ) (events : ℕ) where
   unfolding recordAnswer
   accepted-clear e = clear 1 (rules s sheet m events) (tt, (tt, (tt, (tt, (tt, (tt, (tt, (tt, (tt, (tt, (tt, (tt, tt)))))))))))) e
 
+  -- and so none of those from 3 on, by its number
   pub accepted-rules : recordAnswer s sheet m events ≡ 0 → NoRule (rulesAt (kindOf s) s sheet m events)
   accepted-rules e = clear-at (rulesAt (kindOf s) s sheet m events) (accepted-clear e .1)
 
@@ -95,6 +98,7 @@ module _ (kind : ℕ) (s : List ℕ) (sheet : Sheet) (m : List ℕ) (events : �
   unfolding answerAt
   accepted-by c = at-accepted kind s sheet m events (unclear (rulesAt kind s sheet m events) c)
 
+  -- no rule of any number applies where the answer is 0
   pub answered-rules : answerAt kind s sheet m events ≡ 0 → NoRule (rulesAt kind s sheet m events)
   unfolding answerAt
   answered-rules e = clear-at (rulesAt kind s sheet m events) (clear 2 (rulesAt kind s sheet m events) (tt, (tt, (tt, (tt, (tt, (tt, (tt, (tt, (tt, (tt, (tt, tt))))))))))) e)

@@ -24,6 +24,7 @@ each-place P a b c d e f g h (suc (suc (suc (suc (suc (suc zero)))))) l = g
 each-place P a b c d e f g h (suc (suc (suc (suc (suc (suc (suc zero))))))) l = h
 each-place P a b c d e f g h (suc (suc (suc (suc (suc (suc (suc (suc n)))))))) l = absurd (omega arith)
 
+-- the table of eight has 2^k at k
 pub table-of-powers : (k : ℕ) → k < 8 → getD (1 ∷ 2 ∷ 4 ∷ 8 ∷ 16 ∷ 32 ∷ 64 ∷ 128 ∷ []) k 0 ≡ 2 ^ k
 table-of-powers = each-place (λ k. getD (1 ∷ 2 ∷ 4 ∷ 8 ∷ 16 ∷ 32 ∷ 64 ∷ 128 ∷ []) k 0 ≡ 2 ^ k) refl refl refl refl refl refl refl refl
 
@@ -43,6 +44,7 @@ room =
     (λ b l e. omega arith)
     (λ b l e. omega arith)
 
+-- a byte with a bit added that was not set is still a byte
 pub unset-bit-fits : (b k : ℕ) → b < 256 → k < 8 → bitOf b k ≡ false → b + 2 ^ k < 256
 unset-bit-fits b k l m e = room k m b l (eqb-false (b / 2 ^ k % 2) 1 e)
 
@@ -79,6 +81,7 @@ stays k j b d e = go (leb k j) refl
         let w : 2 ^ k ≡ 2 ^ j * 2 * 2 ^ (k - j - 1) = ap (λ x. 2 ^ x) q ∙ power j (k - j - 1) in
         rw w (below (2 ^ j) (2 ^ (k - j - 1)) b (pow-pos j))
 
+-- with a bit set, that bit is set and every other is as before
 pub bit-same : (b k : ℕ) → bitOf (withBit b k) k ≡ true
 bit-same b k = go (bitOf b k) refl
   where
@@ -93,6 +96,7 @@ bit-other b k j d = go (bitOf b k) refl
     go true e = refl
     go false e = ap (λ x. eqb x 1) (stays k j b d (eqb-false (b / 2 ^ k % 2) 1 e))
 
+-- two different bits set in either order give the same byte
 pub bit-comm : (b k j : ℕ) → j ≢ k → withBit (withBit b k) j ≡ withBit (withBit b j) k
 bit-comm b k j d =
     ap (λ t. cond t (withBit b k) (withBit b k + 2 ^ j)) (bit-other b k j d) ∙

@@ -17,6 +17,7 @@ pub marking-size : (m : List ℕ) (v : ℕ) → length (marking m v) ≡ length 
 unfolding marking
 marking-size m v = length-set m (v / 8) _
 
+-- a number whose byte lies past the map marks nothing
 pub marking-past : (m : List ℕ) (v : ℕ) → length m ≤ v / 8 → marking m v ≡ m
 unfolding marking
 marking-past m v l = set-out m (v / 8) _ l
@@ -37,6 +38,7 @@ pub marking-fits : (m : List ℕ) (v : ℕ) → getD m (v / 8) 0 < 256 → marke
 unfolding marked
 marking-fits m v l e = unset-bit-fits (getD m (v / 8) 0) (v % 8) l (omega arith) e
 
+-- in a map of 8,192 bytes a number below 65,536 is marked once it was marked
 pub marking-same : (m : List ℕ) (v : ℕ) → length m ≡ 8192 → v < 65536 → marked (marking m v) v ≡ true
 unfolding marking marked
 marking-same m v l f =
@@ -47,6 +49,7 @@ marking-same m v l f =
 two-bits : (v w : ℕ) → v ≢ w → v / 8 ≡ w / 8 → w % 8 ≢ v % 8
 two-bits v w d e f = d (omega arith)
 
+-- whether another number is marked stays as it was
 pub marking-other : (m : List ℕ) (v w : ℕ) → v ≢ w → marked (marking m v) w ≡ marked m w
 unfolding marking marked
 marking-other m v w d = go (ℕ-discrete (w / 8) (v / 8))
@@ -60,6 +63,7 @@ marking-other m v w d = go (ℕ-discrete (w / 8) (v / 8))
     go (yes e) = rw e (here (v / 8) (w % 8) (v % 8) (two-bits v w d (sym e)) m)
     go (no n) = ap (λ b. bitOf b (w % 8)) (getD-set-other m (v / 8) (w / 8) _ 0 n)
 
+-- two numbers marked in either order give the same map
 pub marking-comm : (m : List ℕ) (v w : ℕ) → marking (marking m v) w ≡ marking (marking m w) v
 unfolding marking
 marking-comm m v w = go (ℕ-discrete v w)
@@ -104,6 +108,7 @@ markedWith-either P m v p q = go (eqb v 0)
     go true = p
     go false = q
 
+-- the laws of `marking` hold of it too; that a bit is added, and that the number is then marked, of numbers other than 0
 pub markedWith-past : (m : List ℕ) (v : ℕ) → length m ≤ v / 8 → markedWith m v ≡ m
 markedWith-past m v l = markedWith-either (λ n. n ≡ m) m v refl (marking-past m v l)
 

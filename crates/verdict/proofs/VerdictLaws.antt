@@ -11,12 +11,14 @@ use Rattle.fields.specs.declared.Head.{Head}
 use Rattle.verdict.specs.Verdict.{eventVerdict}
 
 module _ (sheet : Sheet) (h : Head) (end : ℕ) (f : Figures) where
+  -- a short event is counted as an event and as short, with no figures
   pub event-short :
       isShort (h .t0) end ≡ true →
       eventVerdict sheet h end f ≡ record { answer = 0; sheet = sheet; number = h .number; events = 1; short = 1; row = rowOf (h .typ); figures = nothing }
   unfolding eventVerdict
   event-short e = rw e
 
+  -- any other is counted as an event, with its figures
   pub event-counted :
       isShort (h .t0) end ≡ false →
       eventVerdict sheet h end f ≡ record { answer = 0; sheet = sheet; number = h .number; events = 1; short = 0; row = rowOf (h .typ); figures = f }

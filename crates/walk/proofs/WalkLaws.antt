@@ -25,6 +25,7 @@ use Rattle.limits.specs.Limits.{lateStep, anyLate, exceeding, aboveLevel, excee
 use Rattle.limits.proofs.LimitLaws.{in-time}
 use Rattle.walk.specs.Walk.{setOut, lateBy, walkedStep, walked}
 
+-- a walk is late exactly where it was before, or a time of the steps breaks a rule
 pub late-from : (w : Walk) (ss : List Step) → walked w ss .late ≡ (w .late || anyLate (w .course .last) ss)
 unfolding walkedStep
 late-from w [] = sym (or-false (w .late))
@@ -50,6 +51,7 @@ course-from w (s ∷ ss) e f =
     ∙ ap (λ c. coursedAll c ss) on
 
 module _ (t0 : ℕ) (ss : List Step) where
+  -- an event's walk is late exactly where a time breaks a rule
   pub walked-late : walked (setOut t0) ss .late ≡ anyLate t0 ss
   walked-late = late-from (setOut t0) ss
 
@@ -57,6 +59,7 @@ module _ (t0 : ℕ) (ss : List Step) where
     walked-course : walked (setOut t0) ss .course ≡ coursedAll (begun t0) ss
     walked-course = course-from (setOut t0) ss refl timely
 
+    -- where none does, it ends at the last step's time, with the figures that the stepped event adds
     pub walked-last : walked (setOut t0) ss .course .last ≡ lastTime t0 ss
     walked-last = ap (λ (c : Course). c .last) walked-course ∙ course-last (begun t0) ss
 
@@ -73,6 +76,7 @@ module _ (w : Walk) (s : Step) where
   unfolding walkedStep
   step-timed e = rw e
 
+  -- after either, with counts of 32 bits, the half minutes stay within what the last time allows
   pub timely-kept : Timely (w .course) → Few 4294967295 (s .counts) → Timely (walkedStep w s .course)
   timely-kept t few = go (test (lateBy w s))
     where
@@ -119,6 +123,7 @@ any-and true f ss = refl
 any-and false f [] = refl
 any-and false f (s ∷ ss) = any-and false f ss
 
+-- the largest counts exceed a level's customers exactly where some step's counts do
 pub exceed-by-largest :
     (totals : List ℕ) (t0 : ℕ) (ss : List Step) → exceedingFigures totals (steppedFigures t0 ss) ≡ any (λ (st : Step). exceeding totals (st .counts)) ss
 exceed-by-largest totals t0 ss =
@@ -130,6 +135,7 @@ exceed-by-largest totals t0 ss =
     ap (λ u. u || any (λ (st : Step). ltb (getD totals 2 0) (getD (st .counts) 2 0)) ss)
     (any-or (λ st. ltb (getD totals 0 0) (getD (st .counts) 0 0)) (λ st. ltb (getD totals 1 0) (getD (st .counts) 1 0)) ss))
 
+-- and are above 0 on a level higher than the event's exactly where some step's counts are
 pub above-by-largest :
     (level t0 : ℕ) (ss : List Step) → figuresAbove level (steppedFigures t0 ss) ≡ any (λ (st : Step). aboveLevel level (st .counts)) ss
 above-by-largest level t0 ss =
