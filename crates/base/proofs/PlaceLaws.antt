@@ -34,6 +34,6 @@ module _ (v : ℕ) (t : List ℕ) (i : ℕ) (l : i < length t) where
       let e : place v (drop i t) ≡ 0 = one ∙ ap (λ b. cond b 0 (suc (place v (drop (i + 1) t)))) (eq-eqb v (getD t i 0) same) in
       omega (arith, c .1, e)
 
--- the end of the table is reached
+-- where the end of the table is reached, the place is its length
 pub ended : (v : ℕ) (t : List ℕ) (i : ℕ) → Come v t i → length t ≤ i → length t ≡ place v t
 ended v t i c over = omega (arith, c .0, c .1, over, ap (place v) (drop-of-length-le t over))

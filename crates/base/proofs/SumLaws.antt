@@ -57,7 +57,7 @@ module _ {A : Type 0} where
       (f : A → Bool) (g : A → ℕ) (xs ys : List A) → sum (map g (keep f (xs ++ ys))) ≡ sum (map g (keep f xs)) + sum (map g (keep f ys))
   sum-kept-append f g xs ys = ap (λ (zs : List A). sum (map g zs)) (keep-append f xs ys) ∙ sum-append g (keep f xs) (keep f ys)
 
-  -- what passes a test that is one of two which exclude each other
+  -- where each value counts under a test as under two others together, so do the sums
   pub sum-of-parts :
       (both left right : A → Bool) (v : A → ℕ) →
       ((x : A) → cond (both x) (v x) 0 ≡ cond (left x) (v x) 0 + cond (right x) (v x) 0) →

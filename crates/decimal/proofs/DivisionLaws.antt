@@ -63,7 +63,7 @@ whole-before-digits n d k digits rest e =
     let g : (q * p + digits) * d ≡ q * p * d + digits * d = add-mul (q * p) digits d in
     omega arith
 
--- a quotient that leaves a rest of half the divisor is small enough to grow by one
+-- a quotient by a divisor of 2 or more, as a rest of half of it shows, is small enough to grow by one
 pub quotient-has-room : (n d rest : ℕ) → n < 18446744073709551616 → rest < d → d ≤ 2 * rest → n / d < 18446744073709551615
 quotient-has-room n d rest h l u =
     let a : n / d * d + n % d ≡ n = div-add-mod' n d in

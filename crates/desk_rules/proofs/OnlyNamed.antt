@@ -185,7 +185,7 @@ module _ (l : Ledger) (m : List ℕ) (d : List Slot) (s : List ℕ) where
   open-slots-same k i n =
       either (λ a. open-others-same k i (λ e. n (ap (λ j. numberAt (getD d j freeSlot)) e ∙ open-lowest k a .held))) (λ z. refused-slot z i)
 
-  -- "Sheet, step and close leave the map as lent"; an open and a step leave the ledger
+  -- a step and a close leave the map as lent; an open and a step leave the ledger
   pub map-same : StepOrClose s → mapServed l m d s ≡ m
   map-same k = either (λ a. go a k) (λ z. refused-same l m d s z .1)
     where

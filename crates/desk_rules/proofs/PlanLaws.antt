@@ -114,7 +114,7 @@ module _ (k : Look) (slots : ℕ) (l : Ledger) (m s : List ℕ) where
   unfolding planOf planAt
   plan-by-kind u f = ap (λ a. cond (eqb a 0) (acceptedPlan (kindOf s) k l s) (refusedPlan l slots a)) (framed-by-kind u f)
 
--- nothing is asked of a kind that is none of the three
+-- a kind that is none of the three is no message
 pub no-message : (kind : ℕ) → (kind ≡ 16 → ⊥) → (kind ≡ 17 → ⊥) → (kind ≡ 18 → ⊥) → byMessage kind true true true ≡ false
 no-message kind a b c = rw (ne-eqb kind 16 a, ne-eqb kind 17 b, ne-eqb kind 18 c)
 

@@ -118,7 +118,7 @@ module _
         ap (λ (st : FileState). Outcome st (isBroken (joined ps))) state-whole ∙
         sym (file-through t (joined ps) s)
 
-    -- a file of at most 2^62 bytes has no more records than that
+    -- of a file of at most 2^62 bytes no more records are refused than that
     pub count-fits : length (joined ps) ≤ mostRefused → f .refused ≤ mostRefused
     count-fits short =
         let same : f .refused ≡ afterFile t (joined ps) .refused = ap (λ (st : FileState). st .refused) state-whole in

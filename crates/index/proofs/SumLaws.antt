@@ -73,7 +73,7 @@ total-within rs low Network set =
     (plus-within rows rows (levelSum rs 0 set) (levelSum rs 1 set) (level-within rs low 0 set) (level-within rs low 1 set))
     (level-within rs low 2 set)
 
--- what an index divides by is a number of customers
+-- what an index divides by is at most the customers that all cells can hold
 pub divisor-at-most : (index : Index) (sum : Cell) (n : ℕ) → Within (rows * levels) sum → n ≤ 12884901885 → divisorOf index sum n ≤ rows * levels * (65535 * mostOf Off)
 divisor-at-most Saifi sum n p q = omega arith
 divisor-at-most Saidi sum n p q = omega arith

@@ -10,7 +10,7 @@ use Rattle.law_people.proofs.CellLaws.{cell-by-customer}
 use Rattle.law_order.proofs.Reordering as order
 use Rattle.law_join.proofs.Joining.{join-adds}
 use Rattle.law_adding.proofs.AddingTheorem.{accepted-book-adds-up}
-use Rattle.law_adding.proofs.IdentityLaws.{book-multiplies}
+use Rattle.law_adding.proofs.IdentityLaws.{multiplies}
 use Rattle.law_index.proofs.EndToEnd.{end-to-end}
 use Rattle.desk_days.proofs.StepByStep as desk
 use Rattle.desk_sums.proofs.SumLaws.{desk-adds}
@@ -50,5 +50,5 @@ demand-3 =
       reordering = order.reordering;
       joining = join-adds;
       adding-up = accepted-book-adds-up;
-      multiplied = λ book level set saifi caidi accepted. book-multiplies book level set saifi caidi;
+      multiplied = multiplies;
     }

@@ -26,7 +26,7 @@ use Rattle.index.specs.declared.Answer.the-variants.{Is}
 use Rattle.index.specs.Index.{indexOf}
 use Rattle.index.specs.Answered.{Way, Exact}
 use Rattle.law_sums.specs.Accepted.{Accepted}
-use Rattle.law_sums.specs.Theorem.{Adds, IsSum, bookLedger}
+use Rattle.law_sums.specs.Theorem.{Adds, IsSum}
 use Rattle.law_people.specs.People.{Agrees, Counted, AddsByCustomer}
 use Rattle.law_order.specs.Reorder.{Reordered, SameEnd}
 use Rattle.law_join.specs.Join.{SameSheet, SharesNone, JoinAdds}
@@ -104,8 +104,7 @@ pub record Demand3 : Type 0 where
   pub adding-up : (book : List ℕ) → Accepted book → AddsUp book
   -- "and CAIDI times SAIFI is SAIDI wherever SAIFI and CAIDI both exist."
   pub multiplied :
-      (book : List ℕ) (level : Level) (set : Set) (saifi caidi : Fraction) →
-      Accepted book →
-      indexOf (bookLedger book) Saifi level set ≡ Is saifi →
-      indexOf (bookLedger book) Caidi level set ≡ Is caidi →
-      Multiplies (bookLedger book) level set saifi caidi
+      (l : Ledger) (level : Level) (set : Set) (saifi caidi : Fraction) →
+      indexOf l Saifi level set ≡ Is saifi →
+      indexOf l Caidi level set ≡ Is caidi →
+      Multiplies l level set saifi caidi

@@ -165,7 +165,7 @@ hex-back v rest h =
       e,
     )
 
--- the byte that an item begins with: a digit, or a letter from a to f
+-- a byte that an item may begin with: from 0 to f, and no semicolon
 abbrev pub Front : ℕ → Type 0
 Front b = (48 ≤ b) × (b ≤ 102) × (b ≡ 59 → ⊥)
 

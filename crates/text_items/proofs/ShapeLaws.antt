@@ -30,7 +30,7 @@ past : (t b : Bool) → cond t false b ≡ true → (t ≡ false) × (b ≡ true
 past true b e = absurd (subst T (sym e) tt)
 past false b e = (refl, e)
 
--- a line of one sort is whole with as many items as it has at most
+-- a sheet and a simple event are whole with as many items as they have at most
 pub whole-sheet : (count : ℕ) → wholeOf 1 count ≡ true → count ≡ 4
 unfolding wholeOf mostOf
 whole-sheet count e = eqb-true count 4 (past (eqb count 0) (eqb count 4) e .1)
