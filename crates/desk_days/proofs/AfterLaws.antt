@@ -76,6 +76,7 @@ module _ (st : State) (s : List ℕ) where
   abbrev pub IsClosed : Type 0
   IsClosed = Closed (st .ledger) (st .map) (st .desk) s
 
+  -- the state after an accepted open, an accepted step and an accepted close
   pub after-opened : IsOpened → after st (message s) ≡ withOpened
   after-opened o = λ i. record { ledger = o .ledger i; map = o .map i; desk = o .desk i }
 
@@ -107,6 +108,7 @@ module _ (l : Ledger) (m s : List ℕ) (a : answerOf l m s ≡ 0) where
       let v = accepted-verdict l m s a ∙ ap (λ kind. acceptedAt kind s (l .sheet)) k in
       (accepted-adds l m s a .0 ∙ ap (added l) v, accepted-adds l m s a .1 ∙ ap (λ (v : Verdict). markedWith m (v .number)) v)
 
+  -- an accepted record of kind 1 is a sheet that was taken, and one of kind 2 or 3 an event that was
   pub sheet-taken : kindOf s ≡ 1 → SheetTaken l m s
   unfolding added
   sheet-taken k =
@@ -142,6 +144,7 @@ module _ (l : Ledger) (m s : List ℕ) (a : answerOf l m s ≡ 0) where
   event-taken (inl k) = event-at 2 k refl refl refl refl
   event-taken (inr k) = event-at 3 k refl refl refl refl
 
+  -- an accepted record is a sheet, a simple event or a stepped event
   pub entry-kind : (kindOf s ≡ 1) ⊎ ((kindOf s ≡ 2) ⊎ (kindOf s ≡ 3))
   entry-kind = kind-taken (kindOf s) (accepted-rules s (l .sheet) m (l .events) (accepted-record l m s a) 3)
 

@@ -54,6 +54,7 @@ accepted-number kind s sheet = go (eqb kind 1) refl (eqb kind 2) refl
     go false p false q = rw (p, q)
 
 module _ (l : Ledger) (m s : List ℕ) (a : answerOf l m s ≡ 0) where
+  -- to an accepted record no rule applies; it adds what a record of its kind adds, and marks its number
   pub entry-clear : Clear (takeRules l m s)
   unfolding answerOf
   entry-clear = clear 0 (takeRules l m s) (tt, (tt, (tt, (tt, (tt, (tt, (tt, (tt, (tt, (tt, (tt, (tt, (tt, tt))))))))))))) a
@@ -96,6 +97,7 @@ module _ (l : Ledger) (m s : List ℕ) (a : answerOf l m s ≡ 0) where
       go (fails b) (holds c) = let is : alreadyMarked kind s m ≡ marked m (headIn s .number) = rw (n, b, c) in sym is ∙ e
       go (fails b) (fails c) = let none : kindNotTaken kind ≡ true = rw (n, b, c) in absurd (true≢false (sym none ∙ k))
 
+  -- the number of an accepted record that is no sheet was not marked before
   pub entry-new : eqb (kindOf s) 1 ≡ false → marked m (headIn s .number) ≡ false
   entry-new = unmarked-at (kindOf s) (clear-at (takeRules l m s) entry-clear 3) (clear-at (takeRules l m s) entry-clear 14)
 
@@ -124,6 +126,7 @@ module _ (l : Ledger) (m s : List ℕ) (a : answerOf l m s ≡ 0) where
         go false false true e = fewer (headIn s .number) e
         go false false false e = refl
 
+    -- where it has the same size and marks no further number, the record is accepted under it too
     pub entry-again : answerOf l rest s ≡ 0
     unfolding answerOf
     entry-again =

@@ -183,6 +183,7 @@ module _ (st : State) (sound : Sound st) (k : Accounted st) where
         named-open (numberIn s) (o .numbered) (o .found),
       )
 
+  -- an arrival of bytes leaves events, open outages and the numbers not marked together at most 65,535
   pub accounted-kept : (a : Arrival) → Bytes (bytesOf a) → Accounted (after st a)
   accounted-kept (message s) b = message-cases st s Accounted (λ _. k) (λ _ _. opens-kept s b) (λ _ _. steps-kept s) (λ _ _. closes-kept s)
   accounted-kept (booked s) b = entry-cases st s Accounted (λ _. k) sheet event
@@ -268,6 +269,7 @@ module _ (st : State) (sound : Sound st) (k : Accounted st) where
         message-at (kindOf s) (desk-kind (kindOf s) (passed 3 (omega arith))) (passed 7 (omega arith)) (passed 8 (omega arith))
         (desk.number-applies (st .ledger) (st .map) (st .desk) s 15 a (omega arith))
 
+  -- no message and no record of bytes is answered 15
   pub not-15 : (a : Arrival) → Bytes (bytesOf a) → answerTo st a ≡ 15 → ⊥
   not-15 (message s) b = message-not-15 s b
   not-15 (booked s) b = entry-not-15 s b

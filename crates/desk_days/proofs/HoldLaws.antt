@@ -41,6 +41,7 @@ any-snoc f [] y a b = or-both (f y) false b refl
 any-snoc f (x ∷ xs) y a b = or-both (f x) (any f (xs ++ y ∷ [])) (or-left (f x) (any f xs) a) (any-snoc f xs y (or-right (f x) (any f xs) a) b)
 
 module _ (e : SteppedEvent) (st : Step) where
+  -- a step taken by the slot that holds an event makes it the slot that holds the event with this step last
   pub holding-stepped : steppedBy (slotHolding e) st ≡ slotHolding (withLast e st)
   holding-stepped =
       let figures : steppedFigures (e .head .t0) (e .steps ++ st ∷ []) ≡ withStep (steppedFigures (e .head .t0) (e .steps)) (st .counts) (st .time - lastTime (e .head .t0) (e .steps)) =
@@ -54,6 +55,7 @@ module _ (e : SteppedEvent) (st : Step) where
         figures = sym figures i;
       }
 
+  -- an event that passes the book's rules passes them with one step more, where that step passes the desk's
   pub passed-stepped :
       (sheet : Sheet) →
       Passed sheet e →

@@ -125,6 +125,7 @@ module _ (l₀ : Ledger) (m₀ : List ℕ) (ds : List Deed) (st : State) (k : Ke
     abbrev opened : State
     opened = record { ledger = st .ledger; map = markedWith (st .map) (h .number); desk = set (st .desk) (placeOf 0 (st .desk)) (openedBy h) }
 
+    -- what is kept is kept of the opened state, with the open as the last deed
     pub open-next : Kept l₀ m₀ (ds ++ opens h ∷ []) opened
     open-next =
         record {
@@ -242,6 +243,7 @@ module _ (l₀ : Ledger) (m₀ : List ℕ) (ds : List Deed) (st : State) (k : Ke
       abbrev stepped : State
       stepped = record { ledger = st .ledger; map = st .map; desk = set (st .desk) (placeOf n (st .desk)) (steppedBy (slotOf n (st .desk)) sp) }
 
+      -- so it is of the stepped state, with the step as the last deed
       pub step-next : Kept l₀ m₀ (ds ++ steps n sp ∷ []) stepped
       step-next =
           record {
@@ -337,6 +339,7 @@ module _ (l₀ : Ledger) (m₀ : List ℕ) (ds : List Deed) (st : State) (k : Ke
             desk = set (st .desk) (placeOf n (st .desk)) freeSlot;
           }
 
+      -- so it is of the closed state, with the close as the last deed
       pub close-next : Kept l₀ m₀ (ds ++ closes n ∷ []) closed
       unfolding added eventVerdict
       close-next =
@@ -451,6 +454,7 @@ module _ (l₀ : Ledger) (m₀ : List ℕ) (ds : List Deed) (st : State) (k : Ke
 
   -- a record at the book entry
   module _ (s : List ℕ) (a : answerOf (st .ledger) (st .map) s ≡ 0) where
+    -- so it is of the state after an accepted record, with the record as the last deed
     pub entry-next : Kept l₀ m₀ (ds ++ takes s ∷ []) (after st (booked s))
     unfolding takeRecord
     entry-next =

@@ -80,6 +80,7 @@ module _ (v : ℕ) (st : State) (g : Gone v st) where
           (λ _. g .out i)
   out-stays (booked s) i = g .out i
 
+  -- an outage that was closed stays so after an arrival, and after any sequence of them
   pub gone-stays : (a : Arrival) → Gone v (after st a)
   gone-stays a =
       record {
@@ -192,6 +193,7 @@ refused-within : (most : ℕ) (st : State) (a : Arrival) → Within most (answer
 refused-within most st a w = record { not-accepted = w .0; at-most = w .1; unchanged = refused-after st a (w .0) }
 
 module _ (v : ℕ) (st : State) (g : Gone v st) where
+  -- a step or close of v is answered by lateRules, an open or book event of its number by againRules: it is too late for v
   pub gone-reply : (a : Arrival) → Replies v a → answerTo st a ≡ first (lateRules (bytesOf a))
   gone-reply (message s) (inl k, n) = late-step v st g s k n
   gone-reply (message s) (inr k, n) = late-close v st g s k n

@@ -35,6 +35,7 @@ marked-stays m v w e = go (ℕ-discrete w v)
     go (yes p) = ap (λ n. marked n v) (markedWith-again m w (ap (marked m) p ∙ e)) ∙ e
     go (no p) = markedWith-other m w v p ∙ e
 
+-- so it does after an arrival, and after any sequence of them
 pub marks-stay : (st : State) (a : Arrival) (v : ℕ) → marked (st .map) v ≡ true → marked (after st a .map) v ≡ true
 marks-stay st (message s) v e =
     message-cases st s (λ t. marked (t .map) v ≡ true) (λ _. e) (λ _ _ _. marked-stays (st .map) v (numberIn s) e) (λ _ _ _. e) (λ _ _ _. e)
@@ -54,6 +55,7 @@ marks-stay-throughout st (a ∷ as′) v e = marks-stay-throughout (after st a) 
 abbrev MarkedIn : List ℕ → Slot → Type 0
 MarkedIn m s = (numberAt s ≡ 0 → ⊥) → marked m (numberAt s) ≡ true
 
+-- where it is so of each slot of a desk, it is so at any index
 pub marked-at : (m : List ℕ) (d : List Slot) → All (MarkedIn m) d → (i : ℕ) → MarkedIn m (getD d i freeSlot)
 marked-at m [] k i = λ n. absurd (n refl)
 marked-at m (s ∷ d) k zero = k .0
@@ -68,6 +70,7 @@ marked-more : (m n : List ℕ) (d : List Slot) → ((v : ℕ) → marked m v ≡
 marked-more m n [] h k = tt
 marked-more m n (s ∷ d) h k = (λ z. h (numberAt s) (k .0 z), marked-more m n d h (k .1))
 
+-- where every open number of a sound state is marked, it is so after an arrival of bytes, and after any sequence of them
 pub marks-kept : (st : State) → Sound st → Marked st → (a : Arrival) → Bytes (bytesOf a) → Marked (after st a)
 marks-kept st sound k (message s) b = message-cases st s Marked (λ _. k) (λ _ _. opens) (λ _ _. steps) (λ _ _. closes)
   where
@@ -93,6 +96,7 @@ marked-throughout st sound k (a ∷ as′) b =
 
 -- ---- from an empty desk
 
+-- free slots have no number to mark
 pub marked-none : (m : List ℕ) (n : ℕ) → All (MarkedIn m) (replicate n freeSlot)
 marked-none m zero = tt
 marked-none m (suc n) = (λ z. absurd (z refl), marked-none m n)

@@ -77,6 +77,7 @@ pub not-again : (st : State) (as′ : List Arrival) (v : ℕ) → marked (st .ma
 not-again st as′ v e =
     each-other {Q = λ w. w ≡ v → ⊥} (λ w u q. true≢false (sym e ∙ ap (marked (st .map)) (sym q) ∙ u .1)) (usings (told st as′)) (used-unmarked st as′)
 
+-- no number is used twice by accepted opens and book events
 pub used-once : (st : State) (as′ : List Arrival) → All (λ a. Bytes (bytesOf a)) as′ → Once (usings (told st as′))
 used-once st [] b = tt
 used-once st (message s ∷ as′) b =

@@ -14,6 +14,7 @@ use Rattle.used_numbers.specs.Marks.{marked, markedWith}
 use Rattle.used_numbers.proofs.MarkLaws.{markedWith-zero, markedWith-again, markedWith-size, markedWith-other, markedWith-comm}
 use Rattle.desk_days.specs.Story.{markedAll}
 
+-- the map keeps its size
 pub all-size : (m vs : List ℕ) → length (markedAll m vs) ≡ length m
 all-size m [] = refl
 all-size m (v ∷ vs) = markedWith-size (markedAll m vs) v ∙ all-size m vs
@@ -60,6 +61,7 @@ all-out m [] i w l e = absurd (not-suc-le-zero l)
 all-out m (v ∷ vs) zero w l e = markedWith-zero (markedAll (markedWith m w) vs) ∙ all-through m vs w ∙ ap (markedWith (markedAll m vs)) (sym e)
 all-out m (v ∷ vs) (suc i) w l e = ap (λ n. markedWith n v) (all-out m vs i w (le-of-suc-le-suc l) e)
 
+-- zeros alone leave the map as it is
 pub all-none : (m vs : List ℕ) → All (λ v. v ≡ 0) vs → markedAll m vs ≡ m
 all-none m [] a = refl
 all-none m (v ∷ vs) a = ap (markedWith (markedAll m vs)) (a .0) ∙ markedWith-zero (markedAll m vs) ∙ all-none m vs (a .1)

@@ -91,6 +91,7 @@ nothing-below level = or-both (ltb level 1 && false) (ltb level 2 && false) (no 
     no true = refl
     no false = refl
 
+-- a slot opened by a listed head with T0 below 527,040 is sound, by an open slot's list and so as a slot
 pub opened-open : (h : Head) → headListed h ≡ true → h .t0 < 527040 → openSound (openedBy h) ≡ true
 opened-open h listed early =
     open-of (openedBy h) listed early (omega arith) (omega arith) (omega arith)
@@ -169,6 +170,7 @@ module _ (s : Slot) (st : Step) (o : openSound s ≡ true) (before : s .last ≤
       subst (λ c. halvesAt (steppedBy s st .figures) h ≤ 2 * c * (st .time - s .head .t0)) (sym (customers-then h l))
       (subst (λ t. t ≤ 2 * max (customersAt (s .figures) h) (getD (st .counts) h 0) * (st .time - s .head .t0)) (sym t) grown)
 
+  -- it stays sound, where it then has at most 64 steps, the time is at most 600,000 and no count is above the event's level
   pub stepped-open :
       s .steps + 1 ≤ 64 →
       st .time ≤ 600000 →

@@ -139,6 +139,7 @@ no-numbers : (d : List Slot) → NothingOpen d → All (λ v. v ≡ 0) (numbersO
 no-numbers [] a = tt
 no-numbers (s ∷ d) a = (a .0, no-numbers d (a .1))
 
+-- free slots, however many, have nothing open
 pub nothing-open : (n : ℕ) → NothingOpen (replicate n freeSlot)
 nothing-open zero = tt
 nothing-open (suc n) = (refl, nothing-open n)
@@ -171,6 +172,7 @@ module _ (l : Ledger) (m : List ℕ) (as′ : List Arrival) (b : All (λ a. Byte
   abbrev deeds : List Deed
   deeds = map deedOf (acceptedOf (emptyDay l m) as′)
 
+  -- what is kept all day long is kept at the end, of what the accepted arrivals did
   pub kept : Kept l m deeds end
   kept = all-kept l m [] (emptyDay l m) as′ (begins l m) b
 
@@ -272,6 +274,7 @@ messages-complete st rs =
     let ds : List Deed = map deedOf (acceptedOf st (map message rs)) in
     closed-only ds ds (messages-no-take st rs)
 
+-- messages of bytes are arrivals of bytes
 pub message-bytes : (rs : List (List ℕ)) → All Bytes rs → All (λ a. Bytes (bytesOf a)) (map message rs)
 message-bytes [] b = tt
 message-bytes (s ∷ rs) b = (b .0, message-bytes rs (b .1))

@@ -14,6 +14,7 @@ use Rattle.desk_days.specs.Story.{Deed, opens, steps, closes, takes, Ste
 
 -- ---- what holds of each
 
+-- what holds of each element of a list: where P gives Q, where P and Q give R, through a map, and with one element more at the end
 pub all-map : {A : Type 0} {P Q : A → Type 0} → ((x : A) → P x → Q x) → (xs : List A) → All P xs → All Q xs
 all-map f [] a = tt
 all-map f (x ∷ xs) a = (f x (a .0), all-map f xs (a .1))
@@ -30,6 +31,7 @@ pub all-snoc : {A : Type 0} (P : A → Type 0) (xs : List A) (y : A) → All P x
 all-snoc P [] y a p = (p, tt)
 all-snoc P (x ∷ xs) y a p = (a .0, all-snoc P xs y (a .1) p)
 
+-- numbers of which none stands twice stay so with another one at the end
 pub once-snoc : (vs : List ℕ) (w : ℕ) → Once vs → All (λ v. w ≢ v) vs → Once (vs ++ w ∷ [])
 once-snoc [] w o a = (tt, tt)
 once-snoc (v ∷ vs) w o a = (all-snoc (λ u. u ≢ v) vs w (o .0) (a .0), once-snoc vs w (o .1) (a .1))
@@ -43,6 +45,7 @@ named (steps w st ∷ ds) = w ∷ named ds
 named (closes w ∷ ds) = w ∷ named ds
 named (takes s ∷ ds) = named ds
 
+-- the numbers named, closed and opened, with one deed more at the end
 pub named-snoc : (ds : List Deed) (d : Deed) → named (ds ++ d ∷ []) ≡ named ds ++ named (d ∷ [])
 named-snoc [] d = refl
 named-snoc (opens h ∷ ds) d = ap (λ vs. h .number ∷ vs) (named-snoc ds d)
@@ -64,6 +67,7 @@ openings-snoc (steps w st ∷ ds) d = openings-snoc ds d
 openings-snoc (closes w ∷ ds) d = openings-snoc ds d
 openings-snoc (takes s ∷ ds) d = openings-snoc ds d
 
+-- what holds of every number named holds of every number closed, and of every number opened
 pub closings-named : (P : ℕ → Type 0) (ds : List Deed) → All P (named ds) → All P (closings ds)
 closings-named P [] a = tt
 closings-named P (opens h ∷ ds) a = closings-named P ds (a .1)
@@ -158,6 +162,7 @@ fresh-steps v (steps w st ∷ ds) a = ap (λ t. cond t (st ∷ stepsFor v ds) (s
 fresh-steps v (closes w ∷ ds) a = fresh-steps v ds (a .1)
 fresh-steps v (takes s ∷ ds) a = fresh-steps v ds a
 
+-- its event has the head of the open, and no step
 pub event-opened :
     (h : Head) (ds : List Deed) →
     All (λ w. w ≢ h .number) (named ds) →
@@ -179,6 +184,7 @@ spared-name v (steps w st) n = ne-eqb w v n
 spared-name v (closes w) n = ne-eqb w v n
 spared-name v (takes s) n = refl
 
+-- a deed that spares v is none of v's
 pub about-spared : (v : ℕ) (ds : List Deed) (d : Deed) → Spares v d → about v (ds ++ d ∷ []) ≡ about v ds
 about-spared v ds d n = about-snoc v ds d ∙ ap (λ t. about v ds ++ cond t (d ∷ []) []) (spared-name v d n) ∙ append-nil (about v ds)
 

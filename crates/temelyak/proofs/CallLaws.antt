@@ -83,12 +83,14 @@ as-accepted {X} answer x y same f = go (eqb answer 0) refl
 -- ---- temelyak_empty
 
 module _ (header : ℕ) (ws : List ℕ) where
+  -- words of another length than a ledger's are refused, with 251 under the right header, and stay as they were
   pub empty-unsized : eqb (length ws) ledgerWords ≡ false → (headed header otherSize ≡ emptyAnswer header ws) × (ws ≡ emptyWords header ws)
   unfolding emptyAnswer emptyWords
   empty-unsized e =
       let a : emptyAnswer header ws ≡ headed header otherSize = rw e in
       (sym a, sym (ap (λ n. ifAccepted n (wordsOf emptyLedger) ws) a ∙ size-refused header (wordsOf emptyLedger) ws))
 
+  -- words of a ledger's length: answer and words are those of the definitions
   pub empty-answer-is : eqb (length ws) ledgerWords ≡ true → headed header 0 ≡ emptyAnswer header ws
   unfolding emptyAnswer
   empty-answer-is e = sym (rw e)
@@ -101,6 +103,7 @@ module _ (header : ℕ) (ws : List ℕ) where
 -- ---- temelyak_take
 
 module _ (header : ℕ) (ws m s : List ℕ) where
+  -- answer, words and map, as they come of the ledger handed on, are those of the definitions
   pub take-answer-is : headed header (answerOf (lentLedger header ws) m s) ≡ takeAnswer header ws m s
   unfolding takeAnswer
   take-answer-is = lent-answer header ws (λ l. answerOf l m s) (none-taken m s)
@@ -116,6 +119,7 @@ module _ (header : ℕ) (ws m s : List ℕ) where
 -- ---- temelyak_serve
 
 module _ (header : ℕ) (ws m : List ℕ) (d : List Slot) (s : List ℕ) where
+  -- so are answer, words, map and desk
   pub serve-answer-is : headed header (messageAnswer (lentLedger header ws) m d s) ≡ serveAnswer header ws m d s
   unfolding serveAnswer
   serve-answer-is = lent-answer header ws (λ l. messageAnswer l m d s) (none-served m d s)
@@ -146,6 +150,7 @@ module _ (header : ℕ) (ws m b out : List ℕ) (p : isPair out ≡ true) where
   unfolding bookAnswer
   one-test = rw p
 
+  -- so are answer, words, map and output, where the output has two words
   pub book-answer-is : headed header (readOf (lentLedger header ws) m b .answer) ≡ bookAnswer header ws m b out
   book-answer-is = lent-answer header ws (λ l. readOf l m b .answer) (none-read m b) ∙ sym one-test
 
@@ -163,6 +168,7 @@ module _ (header : ℕ) (ws m b out : List ℕ) (p : isPair out ≡ true) where
 
 -- an output of another length
 module _ (header : ℕ) (ws m b out : List ℕ) (p : isPair out ≡ false) where
+  -- it is refused, with 251 under the right header, and words, map and output stay as they were
   pub book-unpaired : headed header otherSize ≡ bookAnswer header ws m b out
   unfolding bookAnswer
   book-unpaired = sym (rw p)
@@ -236,6 +242,7 @@ shown-pair f digits = go (eqb (f .bottom) 0) (ltb 6 digits)
     go false true z = absurd (eqb-false 18 0 refl z)
     go false false z = refl
 
+-- where a decimal is answered 0, just two numbers follow the answer
 pub decimal-pair : (l : Ledger) (index : Index) (level : Level) (set : Set) (digits : ℕ) →
     getD (decimally (shownIndex l index level set digits)) 0 0 ≡ 0 → pairIn (decimally (shownIndex l index level set digits)) ≡ drop 1 (decimally (shownIndex l index level set digits))
 decimal-pair l index level set digits = go (indexOf l index level set) (index-exactly l index level set)
@@ -263,6 +270,7 @@ digits-cut f digits = go (test (ltb digits 7))
         ap (shownOf f) (min-eq-right {n = 7} {m = digits} (ltb-false digits 7 e)) ∙
         sym (ap (λ t. cond (eqb (f .bottom) 0) (shown.Refused 17) (cond t (shown.Refused 18) (shown.Is (decimalOf f digits)))) (lt-ltb 6 digits (omega (arith, ltb-false digits 7 e))))
 
+-- a number of digits above 7 may be cut to 7: what is shown is the same
 pub shown-cut : (l : Ledger) (index : Index) (level : Level) (set : Set) (digits : ℕ) → shownIndex l index level set (min digits 7) ≡ shownIndex l index level set digits
 shown-cut l index level set digits = go (indexOf l index level set)
   where
@@ -284,6 +292,7 @@ module _ (header : ℕ) (ws : List ℕ) (index level set : ℕ) (out : List ℕ)
     unfolding indexAnswer
     index-named = sym (ap (λ t. cond t (answeredBy header ws out (indexNumbers (ledgerIn ws))) 255) e)
 
+    -- with an output of two words, answer and output are as the ledger handed on has them
     pub index-paired : isPair out ≡ true →
         (headed header (getD (indexNumbers (lentLedger header ws)) 0 0) ≡ indexAnswer header ws index level set out) ×
         (ifAccepted (headed header (getD (indexNumbers (lentLedger header ws)) 0 0)) (pairIn (indexNumbers (lentLedger header ws))) out ≡ indexOut header ws index level set out)
@@ -303,6 +312,7 @@ module _ (header : ℕ) (ws : List ℕ) (index level set digits : ℕ) (out : Li
   abbrev decimalNumbers : Ledger → List ℕ
   decimalNumbers l = decimally (shownIndex l (indexNamed index) (levelNamed level) (setNamed set) digits)
 
+  -- the same of a decimal
   pub decimal-unnamed : allNamed index level set ≡ false → (255 ≡ decimalAnswer header ws index level set digits out) × (out ≡ decimalOut header ws index level set digits out)
   unfolding decimalAnswer decimalOut
   decimal-unnamed e = (sym (rw e), sym (rw e))

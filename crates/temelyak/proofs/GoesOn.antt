@@ -125,6 +125,7 @@ module _ (l : Ledger) (m s : List ℕ) (f : Fitting l) where
       go n (inl (same, still)) = subst⁻¹ SheetFits same (sheet-of l f)
       go n (inr (none, there, range, still)) = in-range-fits (verdict .sheet) n range
 
+  -- a ledger that fits the words fits them after a record, and so it does after a book and after a message
   pub taken-fits : Fitting (ledgerAfter l m s)
   taken-fits = go (test (eqb (answerOf l m s) 0))
     where
@@ -177,6 +178,7 @@ module _ (l : Ledger) (m : List ℕ) (d : List Slot) (s : List ℕ) (f : Fitting
 written-holds : (us : List ℕ) (l : Ledger) → Fitting l → us ≡ wordsOf l → Holds us l
 written-holds us l f e = subst⁻¹ (λ us. Holds us l) e (words-back l f)
 
+-- where a call answers 0, the words that it leaves fit, and hold the ledger that the call behind it hands back
 pub empty-goes-on : (header : ℕ) (ws : List ℕ) → emptyAnswer header ws ≡ 0 → Holds (emptyWords header ws) emptyLedger
 unfolding emptyWords
 empty-goes-on header ws a =

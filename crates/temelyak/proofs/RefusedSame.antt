@@ -64,6 +64,7 @@ module _ (header : ℕ) (z : header ≡ headerWord → ⊥) where
   unfolding serveAnswer
   serve-other-header ws m d s = other-header header _ z
 
+  -- where the codes name an index, a level and a set
   pub index-other-header : (ws : List ℕ) (index level set : ℕ) (out : List ℕ) → allNamed index level set ≡ true → indexAnswer header ws index level set out ≡ 254
   unfolding indexAnswer
   index-other-header ws index level set out e =
