@@ -57,6 +57,7 @@ module _ (l : Ledger) (m s : List ℕ) (b : Bytes s) (k : kindOf s ≡ 3) (a : a
   not-4-but : (short || eqb n 0 || ltb 64 n) ≡ false
   not-4-but = or-left (short || eqb n 0 || ltb 64 n) (not (eqb (length s) (14 + 16 * n))) not-4
 
+  -- its length is that of its steps, of which there are at most 64, and the event that it tells passes the book's rules
   pub stepped-long : length s ≡ 14 + 16 * n
   stepped-long = eqb-true _ _ (not-false _ (or-right (short || eqb n 0 || ltb 64 n) (not (eqb (length s) (14 + 16 * n))) not-4))
 

@@ -108,6 +108,7 @@ module _ (l : Ledger) (m s : List ℕ) (b : Bytes s) (a : answerOf l m s ≡ 0) 
             subst (λ t. P (cond t (map message (messagesOf s)) (booked s ∷ []))) (sym e) (stepped (eqb-true _ _ (and-right chosen (eqb (kindOf s) 3) e)))
         go (fails e) = subst (λ t. P (cond t (map message (messagesOf s)) (booked s ∷ []))) (sym e) entered
 
+    -- its arrivals build up this record alone, are all accepted, and lead to the ledger and the map after it and an empty desk
     pub one-builds : Builds l m (s ∷ []) (arrivalsOf chosen s)
     one-builds = either-way (Builds l m (s ∷ [])) entered-builds stepped-builds
 

@@ -56,6 +56,7 @@ by-computing l m rs as′ b d c =
 pub p7-built-up : SameEnd book105 (dayOf choice105 (recordsOf book105))
 p7-built-up = cut-into-runs book105 (bytes-by-test book105 refl) book105-accepted choice105
 
+-- both runs are built up from where they begin, so that their day ends as the book of three events does
 pub three-in-runs : InRuns emptyLedger zeroMap twoRuns
 unfolding rowOf levelOf causes causeListed minutesIn isShort withStep simpleFigures marked marking markedWith eventVerdict recordAnswer verdictOf added soundLedger answerOf ledgerAfter mapAfter takeRecord isFree openSound slotSound deskSound lookAnswer planOf messageAnswer ledgerServed mapServed deskServed
 three-in-runs = (by-computing _ _ _ _ refl refl refl, (by-computing _ _ _ _ refl refl refl, tt))

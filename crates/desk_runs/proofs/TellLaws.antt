@@ -29,6 +29,7 @@ module _ (e : SteppedEvent) where
   abbrev pub deedsFor : List Deed
   deedsFor = openDeeds v e ++ closes v ∷ []
 
+  -- the deeds of an event's messages are its open, its steps and its close
   pub messages-deeds : InBytes e → map deedOf (map message (messagesFor e)) ≡ deedsFor
   messages-deeds f =
       let last : List (List ℕ) = closeOf v (length (e .steps)) ∷ [] in

@@ -49,6 +49,7 @@ module _ (l : Ledger) (sound : soundLedger l ≡ true) where
         eqb-true _ _ (and-right (eqb (l .sheet .year) 0 && eqb (getD (l .sheet .totals) 0 0) 0 && eqb (getD (l .sheet .totals) 1 0) 0) _ upto2),
       )
 
+  -- where a level, or the network, has customers, there is a sheet
   pub served-by-sheet : (level : Level) → (customersOf (l .sheet .totals) level ≡ 0 → ⊥) → l .sheet .there ≡ true
   served-by-sheet level somebody = go (test (l .sheet .there))
     where

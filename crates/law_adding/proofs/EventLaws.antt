@@ -46,6 +46,7 @@ module _ (book : List ℕ) (accepted : Accepted book) where
       sums .cells x (rowOf typ) h r b ∙
       sym (ap (λ (es : List (List ℕ)). sum (map (λ (s : List ℕ). given x h (eventIn s)) es)) (counted-by-row typ r (eventsOf book))))
 
+  -- in an accepted book, types of 9.2 of which none stands twice hold the sums over the book's events of these types
   pub events-add : (level : Level) (ts : List ℕ) → eachOnce ts ≡ true → EventsAdd book level ts
   events-add level ts once x =
       sum-across level (λ (typ : ℕ) (h : Level). heldIn x (bookLedger book) (rowOf typ) (columnOf h)) ts ∙

@@ -27,12 +27,14 @@ use Rattle.law_adding.specs.Adding.{totalHeld, Identity, Multiplies}
 use Rattle.law_adding.proofs.BookLaws.{book-sound}
 
 module _ (l : Ledger) (level : Level) (set : Set) where
+  -- in any ledger: where SAIFI and CAIDI exist, SAIDI does, and is their product
   pub multiplies :
       (saifi caidi : Fraction) → indexOf l Saifi level set ≡ Is saifi → indexOf l Caidi level set ≡ Is caidi → Multiplies l level set saifi caidi
   multiplies saifi caidi p q =
       let found = caidi-times-saifi l level set saifi caidi p q in
       record { saidi = found .0; is-saidi = found .1; same = found .2 }
 
+  -- in a sound ledger: the three are answered in one of the ways of the identity
   pub identity : soundLedger l ≡ true → Identity l level set
   identity sound = first (test (l .sheet .there))
     where

@@ -209,5 +209,6 @@ module _ (book : List ℕ) (accepted : Accepted book) where
       let vvn : getD (bookLedger book .sheet .totals) 2 0 ≡ 0 = omega arith in
       λ i. none-given 0 (omega arith) nn x ts i + none-given 1 (omega arith) vn x ts i + none-given 2 (omega arith) vvn x ts i
 
+  -- where a level, or the network, has no customers, and the ledger's totals are the events' sums, nobody is interrupted
   pub none-off : (level : Level) (set : Set) → TotalsAre book level set → customersOf (bookLedger book .sheet .totals) level ≡ 0 → NobodyOff (bookLedger book) level set
   none-off level set are z x = are x ∙ no-events-off x level (typesIn set) z
