@@ -147,6 +147,7 @@ one-call mem (take s) fit = take-stands (mem .words) (mem .map) (mem .desk) fit 
 one-call mem (take-book b out) fit = book-stands (mem .words) (mem .map) (mem .desk) fit b out
 one-call mem (serve s) fit = serve-stands (mem .words) (mem .map) (mem .desk) fit s
 
+-- words that fit do so after any calls, and ledger, map and desk are then those after the arrivals that the calls stand for
 pub calls-are-a-day :
     (mem : Memory) (cs : List Call) →
     wordsFit (mem .words) ≡ true →

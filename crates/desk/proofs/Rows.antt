@@ -32,6 +32,7 @@ roll-mach x = LL.tuple-val TRoll.the-type TRoll′.the-laws (TRoll.the-type .to 
 abbrev pub roll-vals : Roll → List Val
 roll-vals x = roll-mach x ∷ []
 
+-- the machine values that stand for a roll can only be these; so below of a ledger, of what is served and of a plan
 pub roll-tells : Tells RollR (Is RollR) roll-vals
 roll-tells = LL.tells TRoll.the-type TRoll′.the-laws
 
@@ -72,6 +73,7 @@ pub plan-tells : Tells PlanR (Is PlanR) plan-vals
 plan-tells = LL.tells TPlan.the-type TPlan′.the-laws
 
 module _ {M : Type 1} (𝓤 : URA M) (H : Heap 𝓤) (A : Atoms 𝓤) (W : Given 𝓤 H A) where
+  -- of each: the relation makes what is owned for nothing, and its machine value has the struct's MIR type
   pub roll-makes : Makes 𝓤 H A RollR (Is RollR)
   roll-makes = LL.makes TRoll.the-type TRoll′.the-plain 𝓤 H A
 

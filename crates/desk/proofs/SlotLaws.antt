@@ -30,6 +30,7 @@ mach s = LL.tuple-val T.the-type T′.the-laws (T.the-type .to s)
 abbrev pub vals : Slot → List Val
 vals s = mach s ∷ []
 
+-- the machine values that stand for a slot can only be these
 pub tells : Tells R (Is R) vals
 tells = LL.tells T.the-type T′.the-laws
 
@@ -66,6 +67,7 @@ ty-at zero (local τ h ∷ ls) = τ
 ty-at (suc n) (local τ h ∷ ls) = ty-at n ls
 
 module _ {M : Type 1} (𝓤 : URA M) (H : Heap 𝓤) (A : Atoms 𝓤) (W : Given 𝓤 H A) where
+  -- what is owned of a slot shows its relation, may be copied, and is made by the relation for nothing
   pub slot-shows : Shows 𝓤 H A R (Is R)
   slot-shows = shows 𝓤 H A R
 

@@ -220,7 +220,7 @@ module _ (v : ℕ) (numbered : v ≢ 0) where
         place-set-gone v (st .desk) freeSlot (desk-differ (st .desk) (sound .desk)) numbered (λ q. numbered (sym q)) in
         omega (arith, gone, desk-slots (st .desk) (sound .desk))
 
-  -- an outage open at the end was open at the start and not closed, or has an accepted open among the arrivals and no close after it
+  -- an outage open at the end was open at the start and not closed, or has an accepted open among the arrivals and no accepted close after
   pub begun-or-open : (st : State) (as′ : List Arrival) → Sound st → Open v (afterAll st as′) → (Open v st × Unclosed v (told st as′)) ⊎ Begun v st as′
   begun-or-open st [] sound e = inl (e, tt)
   begun-or-open st (message s ∷ as′) sound e = go (begun-or-open (after st (message s)) as′ (sound-stays-sound st (message s) sound) e)

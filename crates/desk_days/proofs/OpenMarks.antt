@@ -14,7 +14,7 @@ use Rattle.used_numbers.specs.Marks.{marked, markedWith}
 use Rattle.used_numbers.proofs.MarkLaws.{markedWith-zero, markedWith-again, markedWith-size, markedWith-other, markedWith-comm}
 use Rattle.desk_days.specs.Story.{markedAll}
 
--- the map keeps its size
+-- a map keeps its size where numbers are marked
 pub all-size : (m vs : List ℕ) → length (markedAll m vs) ≡ length m
 all-size m [] = refl
 all-size m (v ∷ vs) = markedWith-size (markedAll m vs) v ∙ all-size m vs

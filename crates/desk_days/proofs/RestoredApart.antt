@@ -35,7 +35,7 @@ restoredApart = record { ledger = closedDay .ledger; map = closedDay .map; desk 
 abbrev pub counted : Ledger → List ℕ
 counted l = l .events ∷ cellOf l 0 0 .customers .0 ∷ cellOf l 0 0 .halves .0 ∷ []
 
--- it is sound, and every open number is marked in it
+-- the state restored apart is sound, and every open number is marked in it
 pub restored-sound : Sound restoredApart × Marked restoredApart
 unfolding soundLedger deskSound slotSound isFree openSound rowOf levelOf causes causeListed withStep minutesIn isShort marked eventVerdict added lookAnswer planOf messageAnswer ledgerServed mapServed deskServed markedWith
 restored-sound = (record { ledger = refl; map = refl; desk = refl }, (λ _. refl, marked-none (restoredApart .map) 31))

@@ -53,7 +53,7 @@ module _ (l : Ledger) (m : List ℕ) (u : unsound l m ≡ false) where
   pub ledger-right : soundLedger l ≡ true
   ledger-right = not-false _ (or-right (not (eqb (length m) mapSize)) (not (soundLedger l)) u)
 
--- with a sound desk the state is sound
+-- where ledger and map are not unsound and the desk is sound, the state is sound
 pub not-unsound : (st : State) → unsound (st .ledger) (st .map) ≡ false → deskSound (st .desk) ≡ true → Sound st
 not-unsound st u d = record { ledger = ledger-right (st .ledger) (st .map) u; map = size-right (st .ledger) (st .map) u; desk = d }
 

@@ -57,6 +57,7 @@ mixed-day = (refl, refl, refl, refl)
 
 -- ---- a full desk
 
+-- with 32 outages open a further open is answered 16; once they are closed it is accepted, and takes the first slot
 pub full-desk :
     (answersTo morning (map message crowd) ≡ replicate 32 0 ++ (16 ∷ replicate 65 0)) ×
     (numbersOf (afterAll morning (map message crowd) .desk) ≡ 33 ∷ replicate 31 0)

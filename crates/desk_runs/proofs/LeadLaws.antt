@@ -21,7 +21,7 @@ answers-append st (a ∷ xs) ys = ap (λ ns. answerTo st a ∷ ns) (answers-appe
 
 -- ---- arrivals that lead on
 
--- no arrival leads to the same state; an accepted one leads on to where the others lead, and one list to where the next leads
+-- the empty list leads nowhere else; an accepted arrival leads on to where the others lead, and one list to where the next leads
 pub leads-none : (st : State) → Leads st [] st
 leads-none st = record { accepted = tt; ends = refl }
 

@@ -14,6 +14,6 @@ use Rattle.fields.specs.Fields.{stepCount}
 use Rattle.codec.proofs.EncodeLaws.{event-again}
 use Rattle.desk_days.specs.Story.{steppedEventIn, recordOf}
 
--- where it is of bytes, framed, and as long as its number of steps says
+-- a framed record of bytes and of kind 3, as long as its number of steps says, is the one that its event is written as
 pub written-again : (s : List ℕ) → Bytes s → framed s ≡ true → kindOf s ≡ 3 → length s ≡ 14 + 16 * stepCount s → recordOf (steppedEventIn s) ≡ s
 written-again s b whole = event-again s b (eqb-true _ _ (and-right (leb 4 (length s)) (eqb (le16 s 0) (length s)) whole))

@@ -41,6 +41,8 @@ module _
     sheets : sums.acceptedSheets (starting l m) ss ≡ keep sums.isSheet ss
     sheets = all-accepted sums.isSheet (starting l m) ss none-refused
 
+    -- each cell grows by the annex's sum over the records' events, and events and short events by how many of them there are;
+    -- the sheet is the one there, or else that of the first sheet record, and the events' numbers are marked
     pub all-cells : (x : Figure) (row h : ℕ) → row < rows → h < levels → heldIn x (end .ledger) row h ≡ heldIn x l row h + sums.sumOf x row h (eventsIn ss)
     all-cells x row h r c =
         ap (λ (st : BookState). heldIn x (st .ledger) row h) (sym day) ∙
@@ -80,6 +82,7 @@ module _
     day : takeAll (starting l m) complete ≡ record { ledger = end .ledger; map = end .map; refused = 0 }
     day = day-in-records l m as′ bytes free
 
+    -- from an empty desk, arrivals of bytes that leave nothing open add the annex's sums over the events of the day's complete records
     pub day-adds : DayAdds l m as′
     day-adds =
         record {

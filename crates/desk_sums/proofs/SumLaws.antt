@@ -137,6 +137,7 @@ module _
         all-cells l m closed (endOf l m rs) shaped day x row h r c ∙
         ap (λ (n : ℕ). heldIn x l row h + n) (ap (sums.sumOf x row h) events ∙ same-sums outage x row h vs tells)
 
+    -- from an empty desk, messages of bytes that leave nothing open add the annex's sums over the closed outages
     pub desk-adds : DeskAdds l m rs
     desk-adds =
         record {

@@ -33,7 +33,7 @@ module _ (l : Ledger) (sound : soundLedger l ≡ true) (level : Level) (somebody
   twice-exists : 2 * n ≡ 0 → ⊥
   twice-exists e = somebody (omega (arith, e))
 
-  -- over the event types, where the level, or the network, has customers
+  -- of a sound ledger: SAIFI adds over the event types where the level, or the network, has customers, and so does SAIDI
   pub saifi-adds : IndexAdds l Saifi level
   saifi-adds =
       record {

@@ -98,7 +98,7 @@ module _
     there : l .sheet .there ≡ true
     there = served-by-sheet l sound Network somebody
 
-    -- of a sound ledger, where the network has customers and a level without any has nobody interrupted; so of SAIDI
+    -- where the network has customers and a level without any has nobody interrupted, SAIFI times N adds over the levels; so does SAIDI
     pub saifi-weighs : LevelsWeigh l Saifi set
     saifi-weighs =
         let adds =

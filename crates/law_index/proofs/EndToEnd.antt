@@ -108,6 +108,7 @@ module _ (book : List ℕ) (index : Index) (level : Level) (set : Set) where
           exact (λ z. weighted-exists index divisor n (weighed ∙ z)) f r
           (record { lowest = is .lowest; same = subst (λ (g : Fraction). Same f g) same (is .same) })
 
+-- each index of an accepted book, of any level and set, is answered 5, 17 or the annex's fraction in lowest terms, as EndToEnd says
 pub end-to-end : (book : List ℕ) → Accepted book → (index : Index) (level : Level) (set : Set) → EndToEnd book index level set
 end-to-end book accepted index level set = go (accepted-shape book accepted)
   where

@@ -35,6 +35,7 @@ bytes-served book VVN = refl
 bytes-served book Network = refl
 
 module _ (book : List ℕ) (accepted : Accepted book) (s : List ℕ) (ss : List (List ℕ)) (e : recordsOf book ≡ s ∷ ss) (told : Told s ss) where
+  -- the ledger's sheet is that of the first record's bytes
   pub ledger-sheet : bookLedger book .sheet ≡ sheetIn (sheetOf book)
   ledger-sheet =
       ap (λ (rs : List (List ℕ)). takeAll (starting emptyLedger zeroMap) rs .ledger .sheet) e ∙
@@ -61,6 +62,7 @@ module _ (book : List ℕ) (accepted : Accepted book) (s : List ℕ) (ss : List 
     caidi-is : formulaOf (bookLedger book) Caidi level set ≡ annexFraction Caidi book level set
     caidi-is = λ i. record { top = halves-is i; bottom = 2 * off-is i }
 
+    -- 01's formula over the ledger has the top and the bottom of the annex's fraction over the book
     pub formula-is : (index : Index) → formulaOf (bookLedger book) index level set ≡ annexFraction index book level set
     formula-is Saifi = saifi-is
     formula-is Saidi = saidi-is

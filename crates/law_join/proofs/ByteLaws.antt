@@ -26,6 +26,7 @@ module _ (book₁ book₂ : List ℕ) (whole : isBroken book₁ ≡ false) where
       all-append Framed (recordsOf book₁) (eventsOf book₂) (records-framed book₁)
       (all-kept Framed (λ (s : List ℕ). not (eqb (kindOf s) 1)) (recordsOf book₂) (records-framed book₂))
 
+  -- where the first book does not break off, the joined book is its records and the second's events joined, and is cut into just these
   pub join-is : joined (recordsOf book₁ ++ eventsOf book₂) ≡ joinedBook book₁ book₂
   join-is = joined-append (recordsOf book₁) (eventsOf book₂) ∙ ap (λ (b : List ℕ). b ++ joined (eventsOf book₂)) (whole-joined book₁ whole)
 

@@ -67,6 +67,7 @@ without-one k (x ∷ xs) l d = go (eqb x k) refl (without-one k xs l (d .1))
         omega (arith, without-none k xs l apart)
     go false e h = omega arith
 
+-- different numbers from 1 to k, for a k below 65,536, are at most k
 pub at-most : (k : ℕ) (xs : List ℕ) → k < 65536 → Different xs → All (λ (x : ℕ). (1 ≤ x) × (x ≤ k)) xs → length xs ≤ k
 at-most zero [] l d a = omega arith
 at-most zero (x ∷ xs) l d a = absurd (omega (arith, a .0 .0, a .0 .1))
@@ -89,6 +90,7 @@ module _ (x : ℕ) (xs : List ℕ) where
   one-more [] l a b = tt
   one-more (y ∷ ys) l a b = (or-both (eqb y x) (listed y xs) (ne-eqb y x (λ e. a .0 l (sym e))) (b .0), one-more ys l (a .1) (b .1))
 
+-- where each list is of different numbers and no number of the second stands in the first, all are different
 pub different-append : (xs ys : List ℕ) → Different xs → Different ys → All (λ (v : ℕ). listed v xs ≡ false) ys → Different (xs ++ ys)
 different-append [] ys d e a = e
 different-append (x ∷ xs) ys d e a =
@@ -98,6 +100,7 @@ pub none-listed : (ys : List ℕ) → All (λ (v : ℕ). listed v [] ≡ false) 
 none-listed [] = tt
 none-listed (y ∷ ys) = (refl, none-listed ys)
 
+-- where all are different, and the first list's numbers are below 65,536, no number of the second stands in the first
 pub different-shares-none : (xs ys : List ℕ) → All (λ (v : ℕ). v < 65536) xs → Different (xs ++ ys) → All (λ (v : ℕ). listed v xs ≡ false) ys
 different-shares-none [] ys l d = none-listed ys
 different-shares-none (x ∷ xs) ys l d =

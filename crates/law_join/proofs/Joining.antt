@@ -236,6 +236,7 @@ module _ (book₁ book₂ : List ℕ) (bytes₁ : Bytes book₁) (bytes₂ : Byt
           marks-append v xs ys ∙
           (λ i. marked (sym end₁ i .map) v || marked (sym end₂ i .map) v))
 
+  -- accepted books of bytes under one sheet that share no event number join into an accepted book, whose totals are the sums
   pub join-adds : SameSheet book₁ book₂ → SharesNone book₁ book₂ → JoinAdds book₁ book₂
   join-adds same shares = go (accepted-shape book₁ accepted₁) (accepted-shape book₂ accepted₂)
     where
@@ -275,6 +276,7 @@ module _ (book₁ book₂ : List ℕ) (bytes₁ : Bytes book₁) (accepted₁ : 
           (below xs (subst (All Bytes) e (bytes-records book₁ (accepted₁ .whole) bytes₁) .1))
           different)
 
+-- two accepted books of bytes under one sheet join into an accepted book exactly where they share no event number
 pub join-accepted-exactly :
     (book₁ book₂ : List ℕ) →
     Bytes book₁ →

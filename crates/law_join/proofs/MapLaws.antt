@@ -56,6 +56,7 @@ zero-size (suc n) = ap suc (zero-size n)
 from-zero : (v : ℕ) (ss : List (List ℕ)) → marked (allMarked zeroMap ss) v ≡ any (λ (s : List ℕ). hits v (numberIn s)) ss
 from-zero v ss = mark-all zeroMap v ss (zero-size 8192) ∙ ap (λ (t : Bool). t || any (λ (s : List ℕ). hits v (numberIn s)) ss) (zero-unmarked v)
 
+-- from the all-zero map, two lists of events one after the other mark just the numbers that either marks
 pub marks-append :
     (v : ℕ) (xs ys : List (List ℕ)) →
     marked (allMarked zeroMap (xs ++ ys)) v ≡ (marked (allMarked zeroMap xs) v || marked (allMarked zeroMap ys) v)

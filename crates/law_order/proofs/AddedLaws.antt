@@ -62,6 +62,7 @@ levels-comm f g =
 row-comm : (f g : Figures) → Exchanged (λ (r : TypeRow). grownRow r f) (λ (r : TypeRow). grownRow r g)
 row-comm f g r = ap (λ cells. record { levels = cells }) (levels-comm f g (r .levels))
 
+-- two verdicts of one sheet may be added in either order
 pub added-comm : (l : Ledger) (v w : Verdict) → v .sheet ≡ w .sheet → added (added l v) w ≡ added (added l w) v
 unfolding added
 added-comm l v w e =

@@ -186,6 +186,7 @@ module _ (l : Ledger) (m s : List ℕ) (ready : Ready l m) where
           accepted-adds l m s accepted .1 ∙ ap (λ (v : Verdict). markedWith m (v .number)) v,
         )
 
+    -- ledger and map are ready then too
     pub ready-after : Ready (withEvent (l .sheet) l s) (withNumber m s)
     unfolding added eventVerdict
     ready-after =
@@ -195,6 +196,7 @@ module _ (l : Ledger) (m s : List ℕ) (ready : Ready l m) where
           size = markedWith-size m (numberIn s) ∙ ready .size;
         }
 
+    -- the book's state then: its event added, its number marked, and as many refused as before
     pub one-taken :
         (r : ℕ) →
         takeRecord (record { ledger = l; map = m; refused = r }) s ≡ record { ledger = withEvent (l .sheet) l s; map = withNumber m s; refused = r }

@@ -24,6 +24,7 @@ use Rattle.law_order.proofs.ShapeLaws.{told-taken, told-end, told-accep
 apart-sym : (v w : ℕ) → Apart v w → Apart w v
 apart-sym v w a l e = a (omega (arith, e, l)) (sym e)
 
+-- different numbers are so in any order, and all that is asked of events holds of them in any order
 pub different-perm : {vs ws : List ℕ} → Perm vs ws → Different vs → Different ws
 different-perm done d = d
 different-perm (keep {a = v} p) d = (perm-all (Apart v) p (d .0), different-perm p (d .1))
@@ -44,6 +45,7 @@ with-comm : (sheet : Sheet) (l : Ledger) (a b : List ℕ) → withEvent sheet (w
 unfolding eventVerdict
 with-comm sheet l a b = added-comm l (eventAt sheet a) (eventAt sheet b) refl
 
+-- events in any order come to the same ledger, and mark the same numbers
 pub all-added : (sheet : Sheet) (l : Ledger) {ss ts : List (List ℕ)} → Perm ss ts → withAll sheet l ss ≡ withAll sheet l ts
 all-added sheet l p = fold-perm (withEvent sheet) (with-comm sheet) p l
 
@@ -61,6 +63,7 @@ told-perm s p t =
       each = each-perm (sheetIn s) zeroMap 0 p (t .each);
     }
 
+-- an accepted book's records after the first may come in any order: that book is accepted, with the same ledger and map at its end
 pub events-reordered :
     (book s : List ℕ) {ss ts : List (List ℕ)} →
     Accepted book →
@@ -91,5 +94,6 @@ records-reordered book accepted e none =
     subst (λ b. SameEnd b []) (ap joined (sym e) ∙ whole-joined book (accepted .whole)) nothing-reordered
 records-reordered book accepted e (after {sheet = s} p) = events-reordered book s accepted e p
 
+-- the same of every reordered book, that of no bytes too
 pub reordering : (book : List ℕ) (rs : List (List ℕ)) → Accepted book → Reordered (recordsOf book) rs → SameEnd book (joined rs)
 reordering book rs accepted r = records-reordered book accepted refl r

@@ -172,6 +172,7 @@ pub data Shape (book : List ℕ) : Type 0 where
   no-bytes : book ≡ [] → Shape book
   sheet-then : (s : List ℕ) (ss : List (List ℕ)) → recordsOf book ≡ s ∷ ss → book ≡ joined (s ∷ ss) → Told s ss → Shape book
 
+-- an accepted book has no bytes, or it is a sheet and then events, as Told says of them
 pub accepted-shape : (book : List ℕ) → Accepted book → Shape book
 accepted-shape book accepted = go (recordsOf book) refl
   where

@@ -68,6 +68,8 @@ module _ (l : Ledger) (m s : List ℕ) (c : Counted l m s) where
         ap (λ es. heldIn x l row level + sum (map (λ (s : List ℕ). given x level (eventIn s)) es)) (in-no-other row d) ∙
         add-zero _)
 
+-- a stepped event that counts raises its cell's half minutes by twice the minutes of any customers that agree with it;
+-- the cells of the other rows are as they were
 pub cell-by-customer :
     (l : Ledger) (m s : List ℕ) →
     Shaped l →

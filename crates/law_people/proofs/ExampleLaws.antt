@@ -37,6 +37,7 @@ each-of-four P a b c d (suc (suc (suc (suc k)))) l = absurd (omega (arith, l))
 pub halves105 : halvesOfAll (headIn example105 .t0) (stepsIn example105) customers105 ≡ 68696
 halves105 = refl
 
+-- P7's customers agree with its counts on NN, taken after its sheet it counts, and so it adds customer by customer
 pub agrees105 : Agrees 0 (stepsIn example105) customers105
 agrees105 =
     record {
@@ -60,6 +61,7 @@ adds105 =
     counted105
     0 (omega arith) customers105 agrees105
 
+-- NN's half minutes in its row grow by 68696
 pub cell105 :
     heldIn Halves (ledgerAfter (before105 .ledger) (before105 .map) example105) (rowIn example105) 0 ≡
     heldIn Halves (before105 .ledger) (rowIn example105) 0 + 68696

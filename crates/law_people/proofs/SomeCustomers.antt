@@ -54,6 +54,7 @@ below-largest [] k = omega arith
 below-largest (n ∷ ns) zero = omega arith
 below-largest (n ∷ ns) (suc k) = omega (arith, below-largest ns k)
 
+-- whatever the counts of a level are, there are customers that agree with them
 pub there-is-a-list : (h : ℕ) (ss : List Step) → (customers : List (List Bool)) × Agrees h ss customers
 there-is-a-list h ss = (
   firstOnes counts (largest counts),

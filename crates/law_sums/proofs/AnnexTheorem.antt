@@ -161,6 +161,7 @@ refused-counted st (s ∷ ss) =
     one-more true before rs = omega arith
     one-more false before rs = omega arith
 
+-- any records, taken from any state whose ledger has all its rows and levels, add the annex's sums over those accepted
 pub adds-exactly : (st : BookState) (ss : List (List ℕ)) → Shaped (st .ledger) → Adds st ss
 adds-exactly st ss n =
     record {

@@ -39,6 +39,7 @@ accepted-none l m s a h b = go (test (eqb (kindOf s) 2))
         let none : noneThenSome (simpleIn s) ≡ false = ap (λ (kind : ℕ). byKind kind false (noneThenSome (simpleIn s)) false) two ∙ accepted-rules l m s a 13 in
         rw e (none-after-none (simpleIn s) none h b)
 
+-- no accepted event has half minutes on a level where it interrupts nobody
 pub events-nobody : (st : BookState) (ss : List (List ℕ)) → All NobodyNoHalves (acceptedEvents st ss)
 events-nobody st [] = tt
 events-nobody st (s ∷ ss) = go (test (eqb (answerOf (st .ledger) (st .map) s) 0)) (not (eqb (kindOf s) 1)) (events-nobody (takeRecord st s) ss)

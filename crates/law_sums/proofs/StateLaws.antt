@@ -35,6 +35,7 @@ use Rattle.law_sums.specs.Accepted.{zeroMap, eventIn, numberIn, numbersO
 abbrev pub eventOf : Sheet → List ℕ → Verdict
 eventOf sheet s = eventVerdict sheet (headIn s) (endOf (eventIn s)) (figuresOf (eventIn s))
 
+-- a record that is no sheet adds, where it is accepted, the verdict on the event that it tells
 pub event-verdict : (s : List ℕ) (sheet : Sheet) → eqb (kindOf s) 1 ≡ false → acceptedAt (kindOf s) s sheet ≡ eventOf sheet s
 event-verdict s sheet k = go (test (eqb (kindOf s) 2))
   where
@@ -57,6 +58,7 @@ event-asked kind x t k e = go (eqb kind 1) (eqb kind 2) (eqb kind 3) t k e
     go false false true t k e = e
     go false false false t k e = absurd (true≢false t)
 
+-- the head of an accepted record that is no sheet is listed
 pub accepted-listed : (l : Ledger) (m s : List ℕ) → answerOf l m s ≡ 0 → eqb (kindOf s) 1 ≡ false → headListed (headIn s) ≡ true
 accepted-listed l m s a k =
     let c = accepted-rules l m s a in
@@ -199,6 +201,7 @@ stays : (s : List ℕ) (ss : List (List ℕ)) → sheetBy (sheetIn s) ss ≡ she
 stays s [] = refl
 stays s (t ∷ ss) = refl
 
+-- the sheet after records is the one that was there, or else that of the first accepted sheet record
 pub records-sheet : (st : BookState) (ss : List (List ℕ)) → takeAll st ss .ledger .sheet ≡ sheetBy (st .ledger .sheet) (acceptedSheets st ss)
 unfolding takeRecord
 records-sheet st [] = refl
