@@ -1,4 +1,4 @@
-// The desk: a lent table of 32 slots, and the one entry for open, step and close. The rules stand in `plan`; here a slot is taken out by value
+// The desk: a lent table of 32 slots, and the one entry for open, step and close. The rules stand in `desk_rules`; here a slot is taken out by value
 // and written back, and no function knows a rule but how many slots a desk has.
 ghost use mathlib.Core.Path.{_≡_};
 ghost use mathlib.Core.Bool.{true};

@@ -1,4 +1,4 @@
--- All the pieces that have come are one run of bytes, and the end of the inflow is what `yearly` answers to them: 2^40 turns of 65,536 bytes are fewer than
+-- All the pieces that have come are one run of bytes, and the end of the inflow is what `element_file` answers to them: 2^40 turns of 65,536 bytes are fewer than
 -- 2^62, so that their refused records are counted. Into an unsound table nothing is read. Assumes nothing.
 use Prim.Native.Nat.{ℕ}
 use mathlib.Core.Path.{_≡_, sym, ap, _∙_, subst⁻¹}

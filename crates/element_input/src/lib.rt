@@ -78,7 +78,7 @@ pub struct Input {
     pub failed: bool,
 }
 
-// Reads a file to its end into a table. Some bytes came, which the system decides, and what is answered is what `yearly` answers to them in one call.
+// Reads a file to its end into a table. Some bytes came, which the system decides, and what is answered is what `element_file` answers to them in one call.
 pub fn read_file(fd: i32, table: Table) -> Input
     ensures { λ r. ⌜ ((bytes : List ℕ) × (r .read ≡ fileOf table bytes)) ⌝ }
 {

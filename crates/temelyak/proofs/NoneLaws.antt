@@ -1,4 +1,4 @@
--- Each call behind refuses the ledger that stands for none with 1, and on any refusal leaves map and desk as they were: what `LentLaws` of `words` asks of
+-- Each call behind refuses the ledger that stands for none with 1, and on any refusal leaves map and desk as they were: what `LentLaws` of `c_words` asks of
 -- a call. Assumes nothing.
 use Prim.Native.Nat.{ℕ}
 use mathlib.Core.Path.{_≡_, ap}
