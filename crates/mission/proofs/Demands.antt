@@ -14,6 +14,7 @@ use Rattle.law_adding.proofs.IdentityLaws.{multiplies}
 use Rattle.law_index.proofs.EndToEnd.{end-to-end}
 use Rattle.desk_days.proofs.StepByStep as desk
 use Rattle.desk_sums.proofs.SumLaws.{desk-adds}
+use Rattle.temelyak.proofs.RefusedSame.{lent-same}
 use Rattle.mission.specs.Mission.{Demand1, Demand2, Demand3}
 
 -- every record, message and index gets an answer or a numbered refusal; a refused record, message or book changes nothing
@@ -28,6 +29,7 @@ demand-1 =
       record-refused = refused-hands-back;
       message-refused = refused-same;
       book-refused = read-nothing;
+      call-refused = lent-same;
     }
 
 -- accepted events add the annex's sums, an index is its formula in lowest terms, and outages closed at a desk count as records do

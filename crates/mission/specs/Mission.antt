@@ -35,6 +35,7 @@ use Rattle.law_index.specs.Theorem.{EndToEnd}
 use Rattle.desk_days.specs.Day.{message, afterAll, acceptedOf}
 use Rattle.desk_days.specs.Story.{emptyDay, closedRecords, NothingOpen}
 use Rattle.desk_sums.specs.Sums.{endOf, DeskAdds}
+use Rattle.temelyak.specs.Refused.{LentSame}
 
 pub record Demand1 : Type 0 where
   -- "Bytes of every sort, and every ledger, desk or map handed in, get either an answer or a numbered refusal, and the call ends." The answer is n exactly
@@ -57,6 +58,7 @@ pub record Demand1 : Type 0 where
       (l : Ledger) (m book : List ℕ) →
       unsound l m ≡ true →
       (readOf l m book ≡ record { answer = 1; ledger = l; refused = 0; broken = false }) × (mapRead l m book ≡ m)
+  pub call-refused : LentSame
 
 pub record Demand2 : Type 0 where
   -- "Each accepted event adds exactly what the annex's formulas say," of any records from any ledger and map on, refused ones passed over, and of a book

@@ -13,6 +13,7 @@ use Rattle.c_words.specs.Header.{headerWord, headed, answeredInto}
 use Rattle.c_words.proofs.LentLaws.{refused-is}
 use Rattle.c_codes.specs.Named.{allNamed}
 use Rattle.temelyak.specs.Calls.{isPair, indexAsked, decimalAsked, emptyAnswer, emptyWords, takeAnswer, takeWords, takeMap, bookAnswer, bookWords, bookMap, bookOut, serveAnswer, serveWords, serveMap, serveDesk, indexAnswer, indexOut, decimalAnswer, decimalOut}
+use Rattle.temelyak.specs.Refused.{LentSame}
 
 pub empty-refused-same : (header : ℕ) (ws : List ℕ) → (emptyAnswer header ws ≡ 0 → ⊥) → emptyWords header ws ≡ ws
 unfolding emptyWords
@@ -41,6 +42,18 @@ index-refused-same header ws index level set out z = refused-is (indexAnswer hea
 pub decimal-refused-same : (header : ℕ) (ws : List ℕ) (index level set digits : ℕ) (out : List ℕ) → (decimalAnswer header ws index level set digits out ≡ 0 → ⊥) → decimalOut header ws index level set digits out ≡ out
 unfolding decimalOut
 decimal-refused-same header ws index level set digits out z = refused-is (decimalAnswer header ws index level set digits out) _ out z
+
+-- of every call
+pub lent-same : LentSame
+lent-same =
+    record {
+      empty = empty-refused-same;
+      take = take-refused-same;
+      take-book = book-refused-same;
+      serve = serve-refused-same;
+      index = index-refused-same;
+      decimal = decimal-refused-same;
+    }
 
 -- ---- another header
 
