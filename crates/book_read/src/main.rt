@@ -53,10 +53,10 @@ fn say(out: &mut [u8], page: Page, words: &[u8]) -> Page {
 // The answer to a broken length.
 const BROKEN: usize = 2;
 
-// The comments on a record, one to a line here: the one on answer n stands from STARTS[n] to STARTS[n + 1]. Of 1, 8 and 9 there is none: in a book that is
-// read from its beginning map and ledger are sound, 8, 9 and 16 are the desk's, and a ledger that is full (15) has every number marked (14).
-const COMMENTS: [u8; 979] = *b"# accepted\n\
-    # refused, 2: the length in front of these bytes is wrong or they break off, and nothing after it can be read\n\
+// The comments on a refused record, one to a line here: the one on answer n stands from STARTS[n] to STARTS[n + 1]. Of 1, 8 and 9 there is none: in a book
+// that is read from its beginning map and ledger are sound, 8, 9 and 16 are the desk's, and a ledger that is full (15) has every number marked (14).
+const COMMENTS: [u8; 968] =
+    *b"# refused, 2: the length in front of these bytes is wrong or they break off, and nothing after it can be read\n\
     # refused, 3: a book takes year sheets, simple events and stepped events, and this is none of them\n\
     # refused, 4: the length is wrong for this kind of record, or it does not have 1 to 64 steps\n\
     # refused, 5: an event needs a year sheet before it, and a book takes one sheet only\n\
@@ -70,25 +70,25 @@ const COMMENTS: [u8; 979] = *b"# accepted\n\
 
 const STARTS: [usize; 16] = [
     0,
-    11,
-    11,
-    121,
-    220,
-    313,
-    398,
-    488,
-    583,
-    583,
-    583,
-    704,
-    783,
-    864,
-    915,
-    979,
+    0,
+    0,
+    110,
+    209,
+    302,
+    387,
+    477,
+    572,
+    572,
+    572,
+    693,
+    772,
+    853,
+    904,
+    968,
 ];
 
-// The comment on an answer, or nothing where there is none.
-fn say_comment(out: &mut [u8], page: Page, answer: usize) -> Page {
+// The comment on a refusal, or nothing where there is none.
+fn say_refused(out: &mut [u8], page: Page, answer: usize) -> Page {
     let starts = STARTS;
     if 15 <= answer {
         return page;
@@ -100,7 +100,8 @@ fn say_comment(out: &mut [u8], page: Page, answer: usize) -> Page {
     )
 }
 
-fn say_answer(out: &mut [u8], page: Page, answer: u8, short: bool) -> Page {
+// The comment on an accepted record stands by itself: most records are accepted, and a look into the table copies it.
+fn say_accepted(out: &mut [u8], page: Page, short: bool) -> Page {
     if short {
         return say(
             out,
@@ -108,7 +109,14 @@ fn say_answer(out: &mut [u8], page: Page, answer: u8, short: bool) -> Page {
             b"# accepted as short: 3 minutes or less, added to no total\n",
         );
     }
-    say_comment(out, page, answer as usize)
+    say(out, page, b"# accepted\n")
+}
+
+fn say_answer(out: &mut [u8], page: Page, answer: u8, short: bool) -> Page {
+    if answer == 0 {
+        return say_accepted(out, page, short);
+    }
+    say_refused(out, page, answer as usize)
 }
 
 // ---- lines
@@ -337,7 +345,7 @@ fn say_left(page: Page, buffer: &mut [u8], held: usize, out: &mut [u8]) -> Rest 
             failed: false,
         };
     }
-    let begun = say_comment(out, page, BROKEN);
+    let begun = say_refused(out, page, BROKEN);
     let rest = say_rest(begun, buffer, held, out);
     Rest {
         page: say_bytes(out, rest.page, wire::part(&buffer[..], 0, rest.held)),
