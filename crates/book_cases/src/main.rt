@@ -21,6 +21,10 @@
 //   row TYPE                   customers and half minutes of a type on NN, VN, VVN
 // All but a RECORD are told by their first letter, and numbers are found whatever stands between them. What begins as no line or case does is printed
 // as such.
+ghost use mathlib.Core.Path.{_≡_};
+ghost use lib.ListN.{length};
+ghost use Rattle.wire.specs.Book.{whichAt, recordAt, afterAt};
+ghost use Rattle.wire.specs.Cut.{recordsOf, stopFrom, endsBy};
 use annex::Customers;
 use annex::HalfMinutes;
 use book::Read;
@@ -30,8 +34,7 @@ use ledger::Ledger;
 use ledger::TypeRow;
 use libc::STDIN_FILENO;
 use libc::STDOUT_FILENO;
-use reader::Asked;
-use reader::Counted;
+use reader::Reader;
 use text_items::Entry;
 
 // ---- what is printed
@@ -351,6 +354,28 @@ fn read(b: Bench, what: &[u8]) -> Bench {
     with_both(b, next, map)
 }
 
+// What a reader at an offset answers, the size of its record and the offset of the answered reader, and what that one answers.
+struct Asked {
+    which: u8,
+    size: usize,
+    at: usize,
+    again: u8,
+}
+
+// Asks a reader at an offset, and then the reader that was answered.
+fn first_from(book: &[u8], at: usize) -> Asked
+    ensures { λ r. ⌜ (r .which ≡ whichAt (now (book .entry)) at) × (r .size ≡ length (recordAt (now (book .entry)) at)) × (r .at ≡ afterAt (now (book .entry)) at) × (r .again ≡ whichAt (now (book .entry)) (afterAt (now (book .entry)) at)) ⌝ }
+{
+    let a = Reader::from(book, at).next();
+    let b = a.reader.next();
+    Asked {
+        which: a.which,
+        size: a.bytes.len(),
+        at: a.reader.at,
+        again: b.which,
+    }
+}
+
 fn print_asked(a: Asked) {
     number(a.which as u64);
     number(a.size as u64);
@@ -358,13 +383,37 @@ fn print_asked(a: Asked) {
     number(a.again as u64);
 }
 
-// A reader at an offset is asked, and then the reader that it answers.
+// A case `next`: what a reader of its bytes answers at its offset.
 fn ask(lent: [u8; 2048], what: &[u8]) {
     let n = numbers_in(what);
     let v = n.values;
     let mut bytes = lent;
     let held = put_bytes(&mut bytes, past_word(past_word(what)));
-    print_asked(reader::first_from(wire::part(&bytes, 0, held), v[0] as usize));
+    print_asked(first_from(wire::part(&bytes, 0, held), v[0] as usize));
+}
+
+// What a book's reader comes to: how many records it gave, where it was left, and how it ended (1 the end, 2 a broken length).
+struct Counted {
+    count: usize,
+    at: usize,
+    which: u8,
+}
+
+// Asks a book's reader until it answers no record.
+fn count_records(book: &[u8]) -> Counted
+    ensures { λ r. ⌜ (r .count ≡ length (recordsOf (now (book .entry)))) × (r .at ≡ stopFrom (now (book .entry)) 0) × (r .which ≡ endsBy (now (book .entry))) ⌝ }
+{
+    let mut n: usize = 0;
+    let mut a = Reader::new(book).next();
+    while a.which == 0 {
+        a = a.reader.next();
+        n += 1;
+    }
+    Counted {
+        count: n,
+        at: a.reader.at,
+        which: a.which,
+    }
 }
 
 fn print_counted(c: Counted) {
@@ -373,11 +422,11 @@ fn print_counted(c: Counted) {
     number(c.which as u64);
 }
 
-// A reader is asked until it answers no record.
+// A case `count`: what a reader of its bytes comes to.
 fn count(lent: [u8; 2048], what: &[u8]) {
     let mut bytes = lent;
     let held = put_bytes(&mut bytes, past_word(what));
-    print_counted(reader::count_records(wire::part(&bytes, 0, held)));
+    print_counted(count_records(wire::part(&bytes, 0, held)));
 }
 
 fn print_row(l: Ledger, typ: u64) {

@@ -1,6 +1,6 @@
--- No second outcome meets what a public function of this crate promises. A reader and an answer hold a slice, so of `new`, `from` and `next` the
--- promise is taken from the clauses as they stand in src/: in every model they state one plain fact (`new-says`, `from-says`, `next-says`), and
--- that fact is of one outcome. Of an answer's bytes it decides what they are, and not where they lie. Assumes nothing.
+-- No second outcome meets what a public function of this crate promises. A reader and an answer hold a slice, so the promise is taken
+-- from the clauses as they stand in src/: in every model they state one plain fact (`new-says`, `from-says`, `next-says`), and that fact is of one
+-- outcome. Of an answer's bytes it decides what they are, and not where they lie. Assumes nothing.
 use Prim.Native.Nat.{ℕ}
 use mathlib.Core.Path.{_≡_, refl}
 use mathlib.Core.List.{List}
@@ -15,17 +15,13 @@ use contract.Monad.{Fun, fact}
 use denote.Ref.{RefT, now}
 use denote.Triple.Clauses.{Ended, Lasts, AtExit}
 use denote.Triple.Entry.{Args, Res}
-use Rattle.base.proofs.OneOutcome.{OneOutcome, alike}
+use Rattle.base.proofs.OneOutcome.{alike}
 use Rattle.reader.specs.declared.Reader.{Reader}
 use Rattle.reader.specs.declared.Answer.{Answer}
 use Rattle.reader.proofs.Asking.{Answered, reader-is}
 use Rattle.reader.proofs.Reader.new as new
 use Rattle.reader.proofs.Reader.from as makes
 use Rattle.reader.proofs.Reader.next as next
-use Rattle.reader.proofs.first_from.Kinds as first-from-kinds
-use Rattle.reader.proofs.first_from.Reads as first-from
-use Rattle.reader.proofs.count_records.Kinds as count-records-kinds
-use Rattle.reader.proofs.count_records.Reads as count-records
 
 -- two outcomes of one call of which a claim holds are seen the same: the results, and what all lent memory holds at exit
 abbrev OneSeen : (T : Ended) {X : Type 0} → ((κs : Lfts (T .signature .lifetimes)) → Args (T .signature) κs → Res (T .signature) κs → Type 0)
@@ -68,11 +64,3 @@ pub next-one : OneSeen next.ended (λ κs a. Answered (a .0)) (λ κs r. seen r)
 next-one κs a x y v w p q =
     let r : x .reader ≡ y .reader = made-alike (a .0 .book) _ (x .reader) (y .reader) (p .2, p .3) (q .2, q .3) in
     ((λ i. (alike (p .0) (q .0) i, alike (p .1) (q .1) i, r i)), refl)
-
-pub first-from-one : OneOutcome first-from-kinds.ps first-from-kinds.r first-from.Post
-first-from-one κs a x y v w p q =
-    ((λ i. record { which = alike (p .0) (q .0) i; size = alike (p .1) (q .1) i; at = alike (p .2) (q .2) i; again = alike (p .3) (q .3) i }), refl)
-
-pub count-records-one : OneOutcome count-records-kinds.ps count-records-kinds.r count-records.Post
-count-records-one κs a x y v w p q =
-    ((λ i. record { count = alike (p .0) (q .0) i; at = alike (p .1) (q .1) i; which = alike (p .2) (q .2) i }), refl)

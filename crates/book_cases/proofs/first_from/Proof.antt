@@ -1,4 +1,4 @@
--- `reader::first_from` meets its contract: a walk of its MIR, by hand, of three calls in a row and no branch. All that it knows of `from` and of
+-- `first_from` meets its contract: a walk of its MIR, by hand, of three calls in a row and no branch. All that it knows of `from` and of
 -- `next` is that each meets its contract. Each answer is brought to one form first; of the first the reader is copied out and asked again.
 -- Assumes nothing.
 use mathlib.Core.Path.{_≡_, refl, ap}
@@ -39,27 +39,27 @@ use denote.Triple.Call.{calls-at}
 use denote.Triple.Clauses.{ensured, lasts}
 use denote.Triple.Table.{entered, cited}
 use Rattle.wire.specs.Book.{whichAt, recordAt, afterAt}
 use Rattle.reader.specs.declared.Reader.{Reader}
 use Rattle.reader.specs.declared.Answer.{Answer}
-use Rattle.reader.specs.declared.Asked.{Asked}
-use Rattle.reader.proofs.Rows.{AskedR, asked-mach, asked-makes}
-use Rattle.reader.proofs.Asking.{ReaderR, AnswerR, Answered, Next, rd, canon, reader-is, canon-is, Own, reader-told, reader-typed, answer-told, answer-typed, answer-spelt, to-next, goes-next, next-said}
-use Rattle.reader.proofs.Asked as TAsked
-use Rattle.reader.proofs.Asked.Laws as TAsked′
+use Rattle.book_cases.specs.declared.Asked.{Asked}
+use Rattle.reader.proofs.Asking.{Answered, reader-is}
+use Rattle.book_cases.proofs.Asking.{AskedR, asked-mach, asked-makes, ReaderR, AnswerR, Next, rd, canon, canon-is, Own, reader-told, reader-typed, answer-told, answer-typed, answer-spelt, to-next, goes-next, next-said}
+use Rattle.book_cases.proofs.Asked as TAsked
+use Rattle.book_cases.proofs.Asked.Laws as TAsked′
 use Rattle.reader.proofs.Reader.Laws as T′
 use Rattle.reader.proofs.Answer.Laws as An′
 use Rattle.reader.proofs.Reader.from as makes
 use Rattle.reader.proofs.Reader.from.Symbol as from-def
 use Rattle.reader.proofs.Reader.from.Symbol.{name as #reader·Reader·from}
 use Rattle.reader.proofs.Reader.from.Met as from-thm
 use Rattle.reader.proofs.Reader.next as next
 use Rattle.reader.proofs.Reader.next.Symbol as next-def
 use Rattle.reader.proofs.Reader.next.Symbol.{name as #reader·Reader·next}
 use Rattle.reader.proofs.Reader.next.Met as next-thm
-use Rattle.reader.proofs.first_from.Key.{name as #reader·first-from}
-use Rattle.reader.proofs.first_from as first
-use Rattle.reader.proofs.first_from.Statement as stated
-use Rattle.reader.proofs.first_from.Code as code
+use Rattle.book_cases.proofs.first_from.Key.{name as #book_cases·first-from}
+use Rattle.book_cases.proofs.first_from as first
+use Rattle.book_cases.proofs.first_from.Statement as stated
+use Rattle.book_cases.proofs.first_from.Code as code
 
 abbrev stayed : Stays (first.ended .signature .params) (first.ended .kept)
 stayed = (stay-none-slice (0 ∷ []) tt (plain (λ _. u8)) yes, (stay-none (λ _. usize) yes, tt))
@@ -93,7 +93,7 @@ module _ {M : Type 1} (𝓤 : URA M) (H : Heap 𝓤) (A : Atoms 𝓤) (W : Given
       says ! (refl, ap length e, refl, refl) $
       nothing ! $ move ! (1 ∷ 0 ∷ []) $ join ! $ frame ! $
       nothing ! $ owned ! usize (Is usize) (uint-makes 𝓤 H A W w64) n _ (refl, fits) $ fjoin ! $ move ! (1 ∷ 0 ∷ []) $ fjoin ! $ frame ! $
-      owned ! AskedR (Is AskedR) (asked-makes 𝓤 H A W) (found x) _ g $ done !
+      owned ! AskedR (Is AskedR) (asked-makes 𝓤 H A) (found x) _ g $ done !
 
   -- what the triple of `from` binds outside, that the caller has what it asks, and what is known of its result
   abbrev to-from : From 𝓤 H A mem run .Ghost
@@ -190,7 +190,7 @@ pub first-from-spec : {M : Type 1} → stated.statement M
 unfolding code.routine tablesOf
 first-from-spec 𝓤 H 𝓜 𝓖 𝓡 =
     entered 𝓤 H (tripleOf 𝓤 H (𝓖 .A) first.signature (first.spec 𝓤 H (𝓖 .A) (𝓜 .mem) (𝓡 .run)))
-    (tables 𝓤 H 𝓜 𝓡 code.env .C) (tables 𝓤 H 𝓜 𝓡 code.env .Λ) #reader·first-from code.function (code.unfolded 𝓤 H 𝓜 𝓡)
+    (tables 𝓤 H 𝓜 𝓡 code.env .C) (tables 𝓤 H 𝓜 𝓡 code.env .Λ) #book_cases·first-from code.function (code.unfolded 𝓤 H 𝓜 𝓡)
     (first-meets 𝓤 H (𝓖 .A) (givenOf 𝓤 H 𝓜 𝓖) (𝓜 .mem) (𝓡 .run) (tablesOf 𝓤 H 𝓜 (tables 𝓤 H 𝓜 𝓡 code.env))
     (cited 𝓤 H (From 𝓤 H (𝓖 .A) (𝓜 .mem) (𝓡 .run)) 𝓜 𝓡 code.env #reader·Reader·from from-def.routine code.calls-reader·Reader·from (from-thm.met 𝓤 H 𝓜 𝓖 𝓡))
     (cited 𝓤 H (Next 𝓤 H (𝓖 .A) (𝓜 .mem) (𝓡 .run)) 𝓜 𝓡 code.env #reader·Reader·next next-def.routine code.calls-reader·Reader·next (next-thm.met 𝓤 H 𝓜 𝓖 𝓡)))

@@ -1,4 +1,4 @@
--- `reader::count_records` meets its contract: a walk of its MIR, by hand, with a loop whose turn asks the reader and whose local is the reader's
+-- `count_records` meets its contract: a walk of its MIR, by hand, with a loop whose turn asks the reader and whose local is the reader's
 -- answer. All that it knows of `new` and of `next` is that each meets its contract.
 -- What the reader and the answer own is never carried: what book owns is Copy, and makes a reader at any offset anew. The loop's variant has the
 -- offset, the count, and the part that the last answer holds.
@@ -9,12 +9,13 @@ use native.Mathlib.Nat.{lt-of-le-of-lt, le-trans}
 use mathlib.Core.WellFounded.{WellFounded, InvImage·wf}
 use mathlib.Core.List.{List, [], _∷_}
 use lib.Dec.{eqb→eq, lit<}
-use lib.ListN.{length}
+use lib.ListN.{length, getD}
 use lib.WfN.{Nat·lt-wfRel}
-use mir.Syntax.{named, erased, w64}
+use mir.Syntax.{named, erased, w64, Ty, tyUnit, local, valueLocal, unsigned, add, place, field, copy, int, rvOpd, op2, Body, assign, call, seq}
 use mir.Val.{Val, vint}
 use base.Logic.{SProp, ent, sep, emp, via, fst∗, snd∗, exE, id⊢}
 use base.Fml.{Lft, Share, ftrue, fat, froom, fdies, flft}
+use prog.Machine.{tyOf}
 use prog.Wp.{Heap, Out, Env, afterSeq, afterBlock, afterTurn, Calls, Loops, Wp, atReturn, WpFn, Tables}
 use types.Kit.{Given, Item, ‵, raw, _⊛_, some, later, ⋆, Sq, runs, anyQ, atRet, _$_, _∵_, !, qed, by, move, drop, use1, use2, split, join, pick, rewrite, fsplit, fjoin, suffices, frame, await, done}
 use types.Part.{whole, sub, look-in, agg}
@@ -45,29 +46,39 @@ use denote.Triple.Clauses.{ensured, lasts}
 use denote.Triple.Table.{entered, cited}
 use Rattle.wire.specs.Book.{whichAt, afterAt}
 use Rattle.wire.specs.Cut.{recordsOf, stopFrom, endsBy}
 use Rattle.reader.specs.declared.Reader.{Reader}
 use Rattle.reader.specs.declared.Answer.{Answer}
-use Rattle.reader.specs.declared.Counted.{Counted}
-use Rattle.reader.proofs.CountLaws.{Come, come-start, come-on, come-nearer, come-end, unsame}
-use Rattle.reader.proofs.Rows.{CountedR, counted-mach, counted-makes, after, ty-at}
-use Rattle.reader.proofs.Asking.{ReaderR, AnswerR, Answered, Next, rd, canon, reader-is, canon-is, Own, reader-told, reader-typed, answer-told, answer-typed, to-next, goes-next, next-said}
-use Rattle.reader.proofs.Counted as TCounted
-use Rattle.reader.proofs.Counted.Laws as TCounted′
+use Rattle.book_cases.specs.declared.Counted.{Counted}
+use Rattle.book_cases.proofs.CountLaws.{Come, come-start, come-on, come-nearer, come-end, unsame}
+use Rattle.reader.proofs.Asking.{Answered, reader-is}
+use Rattle.book_cases.proofs.Asking.{CountedR, counted-mach, counted-makes, ReaderR, AnswerR, Next, rd, canon, canon-is, Own, reader-told, reader-typed, answer-told, answer-typed, to-next, goes-next, next-said}
+use Rattle.book_cases.proofs.Counted as TCounted
+use Rattle.book_cases.proofs.Counted.Laws as TCounted′
 use Rattle.reader.proofs.Reader.Laws as T′
 use Rattle.reader.proofs.Answer.Laws as An′
 use Rattle.reader.proofs.Reader.new as new
 use Rattle.reader.proofs.Reader.new.Symbol as new-def
 use Rattle.reader.proofs.Reader.new.Symbol.{name as #reader·Reader·new}
 use Rattle.reader.proofs.Reader.new.Met as new-thm
 use Rattle.reader.proofs.Reader.next as next
 use Rattle.reader.proofs.Reader.next.Symbol as next-def
 use Rattle.reader.proofs.Reader.next.Symbol.{name as #reader·Reader·next}
 use Rattle.reader.proofs.Reader.next.Met as next-thm
-use Rattle.reader.proofs.count_records.Key.{name as #reader·count-records}
-use Rattle.reader.proofs.count_records as counts
-use Rattle.reader.proofs.count_records.Statement as stated
-use Rattle.reader.proofs.count_records.Code as code
-use Rattle.reader.proofs.count_records.Code.Mir as body
+use Rattle.book_cases.proofs.count_records.Key.{name as #book_cases·count-records}
+use Rattle.book_cases.proofs.count_records as counts
+use Rattle.book_cases.proofs.count_records.Statement as stated
+use Rattle.book_cases.proofs.count_records.Code as code
+use Rattle.book_cases.proofs.count_records.Code.Mir as body
+
+-- the type of the local i
+abbrev ty : ℕ → Ty
+ty i = tyOf (getD body.locals i (local tyUnit valueLocal))
+
+-- a turn of the loop behind its test: the reader in the answer (local 3) is asked, and a record more is counted (local 2)
+abbrev asks : Body
+asks =
+    seq (assign (place 7 []) (rvOpd (copy (place 3 (field 2 ∷ []))))) (seq (call #reader·Reader·next (copy (place 7 []) ∷ []) (place 3 []))
+    (assign (place 2 []) (op2 (add unsigned) (copy (place 2 [])) (int w64 1))))
 
 abbrev stayed : Stays (counts.ended .signature .params) (counts.ended .kept)
 stayed = (stay-none-slice (0 ∷ []) tt (plain (λ _. u8)) yes, tt)
@@ -96,7 +107,7 @@ module _ {M : Type 1} (𝓤 : URA M) (H : Heap 𝓤) (A : Atoms 𝓤) (W : Given
       suffices ! _ (ends-at 𝓤 H A counts.ended stayed (counts.clauses 𝓤 H A mem run) W (((κ, tt), (q, tt), tt, (s, tt), at), tt) (counted-mach r) r (tt, tt) (tt, tt)) $
       says ! e $
       nothing ! $ move ! (1 ∷ 0 ∷ []) $ join ! $ frame ! $ nothing ! $ move ! (1 ∷ 0 ∷ []) $ fjoin ! $ frame ! $
-      owned ! CountedR (Is CountedR) (counted-makes 𝓤 H A W) r _ g $ done !
+      owned ! CountedR (Is CountedR) (counted-makes 𝓤 H A) r _ g $ done !
 
   -- what each callee's triple binds outside, that the caller has what it asks, and what is known of its result
   abbrev to-new : New 𝓤 H A mem run .Ghost
@@ -135,23 +146,22 @@ module _ {M : Type 1} (𝓤 : URA M) (H : Heap 𝓤) (A : Atoms 𝓤) (W : Given
 
     abbrev E : Env 𝓤 H
     E =
-        (ty-at 0 body.locals, l₀) ∷ (ty-at 1 body.locals, l₁) ∷ (ty-at 2 body.locals, l₂) ∷ (ty-at 3 body.locals, l₃) ∷ (ty-at 4 body.locals, l₄) ∷
-        (ty-at 5 body.locals, l₅) ∷ (ty-at 6 body.locals, l₆) ∷ (ty-at 7 body.locals, l₇) ∷ (ty-at 8 body.locals, l₈) ∷ (ty-at 9 body.locals, l₉) ∷ []
+        (ty 0, l₀) ∷ (ty 1, l₁) ∷ (ty 2, l₂) ∷ (ty 3, l₃) ∷ (ty 4, l₄) ∷ (ty 5, l₅) ∷ (ty 6, l₆) ∷ (ty 7, l₇) ∷ (ty 8, l₈) ∷ (ty 9, l₉) ∷ []
 
     -- [the token; what book owns; _9; …; …; _0; …]: the local i stands at 2 + 2 · (9 − i)
     abbrev At : Upto → List (Item 𝓤)
     At t =
         ‵ (flft κ q) ∷ ‵ (Own κ s) ∷
-        ‵ (froom (ty-at 9 body.locals) l₉ 0) ∷ ‵ (fdies (ty-at 9 body.locals) l₉) ∷
-        ‵ (froom (ty-at 8 body.locals) l₈ 0) ∷ ‵ (fdies (ty-at 8 body.locals) l₈) ∷
-        ‵ (froom (ty-at 7 body.locals) l₇ 0) ∷ ‵ (fdies (ty-at 7 body.locals) l₇) ∷
-        ‵ (froom (ty-at 6 body.locals) l₆ 0) ∷ ‵ (fdies (ty-at 6 body.locals) l₆) ∷
-        ‵ (froom (ty-at 5 body.locals) l₅ 0) ∷ ‵ (fdies (ty-at 5 body.locals) l₅) ∷
-        ‵ (froom (ty-at 4 body.locals) l₄ 0) ∷ ‵ (fdies (ty-at 4 body.locals) l₄) ∷
-        ‵ (fat fullShare (ty-at 3 body.locals) l₃ 0 (An′.lowered (canon s (t .0) (t .1 .1 .0)))) ∷ ‵ (fdies (ty-at 3 body.locals) l₃) ∷
-        ‵ (fat fullShare (ty-at 2 body.locals) l₂ 0 (vint w64 (t .1 .0))) ∷ ‵ (fdies (ty-at 2 body.locals) l₂) ∷
-        ‵ (fat fullShare (ty-at 1 body.locals) l₁ 0 v) ∷ ‵ (fdies (ty-at 1 body.locals) l₁) ∷
-        ‵ (froom (ty-at 0 body.locals) l₀ 0) ∷ ‵ (fdies (ty-at 0 body.locals) l₀) ∷ []
+        ‵ (froom (ty 9) l₉ 0) ∷ ‵ (fdies (ty 9) l₉) ∷
+        ‵ (froom (ty 8) l₈ 0) ∷ ‵ (fdies (ty 8) l₈) ∷
+        ‵ (froom (ty 7) l₇ 0) ∷ ‵ (fdies (ty 7) l₇) ∷
+        ‵ (froom (ty 6) l₆ 0) ∷ ‵ (fdies (ty 6) l₆) ∷
+        ‵ (froom (ty 5) l₅ 0) ∷ ‵ (fdies (ty 5) l₅) ∷
+        ‵ (froom (ty 4) l₄ 0) ∷ ‵ (fdies (ty 4) l₄) ∷
+        ‵ (fat fullShare (ty 3) l₃ 0 (An′.lowered (canon s (t .0) (t .1 .1 .0)))) ∷ ‵ (fdies (ty 3) l₃) ∷
+        ‵ (fat fullShare (ty 2) l₂ 0 (vint w64 (t .1 .0))) ∷ ‵ (fdies (ty 2) l₂) ∷
+        ‵ (fat fullShare (ty 1) l₁ 0 v) ∷ ‵ (fdies (ty 1) l₁) ∷
+        ‵ (froom (ty 0) l₀ 0) ∷ ‵ (fdies (ty 0) l₀) ∷ []
 
     abbrev Turned : Upto → Out → SProp 𝓤
     Turned t = afterTurn 𝓤 H (Below 𝓤 H A Nearer At t) (afterBlock 𝓤 H (afterSeq 𝓤 H (Wp 𝓤 H C Λ E body.t-5 (atReturn 𝓤 H E Post)) (atReturn 𝓤 H E Post)))
@@ -164,7 +174,7 @@ module _ {M : Type 1} (𝓤 : URA M) (H : Heap 𝓤) (A : Atoms 𝓤) (W : Given
         assigns ! (bin ! (load ! (from ! (stop !)) (look ! 10 refl)) (lit ! tt) tt) (from ! (stop !)) (init ! 8 refl (tt, tt)) $
         first ! $ branches ! (load ! (from ! (stop !)) (look ! 8 refl))
         (λ same. let z = eqb→eq (whichAt xs (t .0)) 0 same in
-        skips ! $ exec ! C Λ E (after 3 body.turn-1) (anyQ (Turned t)) $
+        skips ! $ exec ! C Λ E asks (anyQ (Turned t)) $
         assigns ! (of-opd ! (load ! (from ! (fld ! refl (stop !))) (look-in ! 14 (sub ! 2 refl (whole !))))) (from ! (stop !)) (init ! 6 refl (tt, wt .1 .1 .1 .0)) $
         -- the next answer
         move ! (1 ∷ []) $ use1 W (‵ (Own κ s) ⊛ ‵ (Own κ s)) (shr-slice-copy 𝓤 H A W (named 0) κ u8 .twice s (v ∷ [])) $ split ! $ move ! (2 ∷ 0 ∷ []) $
@@ -253,7 +263,7 @@ pub count-records-spec : {M : Type 1} → stated.statement M
 unfolding code.routine tablesOf
 count-records-spec 𝓤 H 𝓜 𝓖 𝓡 =
     entered 𝓤 H (tripleOf 𝓤 H (𝓖 .A) counts.signature (counts.spec 𝓤 H (𝓖 .A) (𝓜 .mem) (𝓡 .run)))
-    (tables 𝓤 H 𝓜 𝓡 code.env .C) (tables 𝓤 H 𝓜 𝓡 code.env .Λ) #reader·count-records code.function (code.unfolded 𝓤 H 𝓜 𝓡)
+    (tables 𝓤 H 𝓜 𝓡 code.env .C) (tables 𝓤 H 𝓜 𝓡 code.env .Λ) #book_cases·count-records code.function (code.unfolded 𝓤 H 𝓜 𝓡)
     (count-meets 𝓤 H (𝓖 .A) (givenOf 𝓤 H 𝓜 𝓖) (𝓜 .mem) (𝓡 .run) (tablesOf 𝓤 H 𝓜 (tables 𝓤 H 𝓜 𝓡 code.env))
     (cited 𝓤 H (New 𝓤 H (𝓖 .A) (𝓜 .mem) (𝓡 .run)) 𝓜 𝓡 code.env #reader·Reader·new new-def.routine code.calls-reader·Reader·new (new-thm.met 𝓤 H 𝓜 𝓖 𝓡))
     (cited 𝓤 H (Next 𝓤 H (𝓖 .A) (𝓜 .mem) (𝓡 .run)) 𝓜 𝓡 code.env #reader·Reader·next next-def.routine code.calls-reader·Reader·next (next-thm.met 𝓤 H 𝓜 𝓖 𝓡)))
