@@ -37,8 +37,8 @@ tests-of h =
 pub listed-number : (h : Head) → headListed h ≡ true → h .number ≡ 0 → ⊥
 listed-number h e = eqb-false _ _ (not-true _ (tests-of h e .0))
 
-pub listed-row : (h : Head) → headListed h ≡ true → rowOf (h .typ) < 7
+pub listed-row : (h : Head) → headListed h ≡ true → rowOf (h .typ) < rows
 listed-row h e = ltb-true _ _ (tests-of h e .1 .0)
 
-pub listed-level : (h : Head) → headListed h ≡ true → levelOf (h .voltage) < 3
+pub listed-level : (h : Head) → headListed h ≡ true → levelOf (h .voltage) < levels
 listed-level h e = ltb-true _ _ (tests-of h e .1 .1 .0)

@@ -8,12 +8,12 @@ use lib.ListN.{length, getD, getD-replicate}
 use lib.Dec.{eqb}
 use native.Mathlib.Nat.{add-zero, zero-add}
 use native.Mathlib.Omega.{arith}
-use borrow.Author.Tests.{eqb-true, eqb-false, ltb-true}
+use borrow.Author.Tests.{eqb-true, eqb-false}
 use Rattle.base.specs.Lists.{listed, sum, keep}
-use Rattle.base.proofs.TestLaws.{Tested, holds, fails, test, and-left, and-right}
+use Rattle.base.proofs.TestLaws.{Tested, holds, fails, test}
 use Rattle.wire.specs.Frame.{kindOf}
 use Rattle.wire.specs.Cut.{recordsOf}
-use Rattle.codes.specs.Codes.{rows, levels, rowOf}
+use Rattle.codes.specs.Codes.{rows, levels}
 use Rattle.annex.specs.declared.Figures.{Figures}
 use Rattle.annex.specs.Times.{isShort}
 use Rattle.annex.specs.Figures.{nothing}
@@ -21,9 +21,8 @@ use Rattle.annex.specs.Figure.{Figure, Off, Halves, given, figureAt}
 use Rattle.annex.specs.Annex.{simple, stepped, startOf, endOf, shortEvent, figuresOf}
 use Rattle.annex.proofs.FoldLaws.{nothing-gives, figures-given}
 use Rattle.fields.specs.declared.Sheet.{Sheet}
-use Rattle.fields.specs.declared.Head.{Head}
 use Rattle.fields.specs.Fields.{sheetIn, noSheet, headIn, simpleIn, stepsIn}
-use Rattle.fields.specs.Tests.{headListed}
+use Rattle.fields.proofs.TestLaws.{listed-row}
 use Rattle.verdict.specs.Verdict.{sheetVerdict, eventVerdict}
 use Rattle.record.specs.Verdict.{acceptedAt}
 use Rattle.ledger.specs.declared.TypeRow.{TypeRow}
@@ -42,9 +41,6 @@ use Rattle.base.proofs.SumLaws.{sum-kept, sum-of-ones, count-kept}
 -- the ledger with a sheet put in
 abbrev withSheet : Ledger → Sheet → Ledger
 withSheet l next = record { sheet = next; events = l .events; short = l .short; rows = l .rows }
-
-listed-row : (h : Head) → headListed h ≡ true → rowOf (h .typ) < rows
-listed-row h e = ltb-true _ _ (and-right (not (eqb (h .number) 0)) _ (and-left _ _ (and-left _ _ e)))
 
 accepted-row : (l : Ledger) (m s : List ℕ) → answerOf l m s ≡ 0 → eqb (kindOf s) 1 ≡ false → rowIn s < rows
 accepted-row l m s a k = listed-row (headIn s) (accepted-listed l m s a k)
