@@ -5,6 +5,7 @@ use mathlib.Core.List.{List}
 use native.Mathlib.Omega.{arith}
 use Rattle.codes.specs.declared.Set.{Set}
 use Rattle.codes.specs.Codes.{rows, levels, rowHeld}
+use Rattle.codes.specs.Ranges.{mostEvents}
 use Rattle.annex.specs.Figure.{Figure, Off, Halves, mostOf}
 use Rattle.ledger.specs.declared.Cell.{Cell}
 use Rattle.ledger.specs.declared.TypeRow.{TypeRow}
@@ -20,7 +21,7 @@ use Rattle.index.specs.Inside.{Fit, Low}
 
 -- at most n times the bounds of a cell
 abbrev pub Within : ℕ → Cell → Type 0
-Within n c = (x : Figure) → held x c ≤ n * (65535 * mostOf x)
+Within n c = (x : Figure) → held x c ≤ n * (mostEvents * mostOf x)
 
 -- as many cells as a ledger has fit together
 pub within-fit : (m n : ℕ) (a b : Cell) → Within m a → Within n b → m + n ≤ rows * levels → Fit a b
@@ -74,7 +75,7 @@ total-within rs low Network set =
     (level-within rs low 2 set)
 
 -- what an index divides by is at most the customers that all cells can hold
-pub divisor-at-most : (index : Index) (sum : Cell) (n : ℕ) → Within (rows * levels) sum → n ≤ 12884901885 → divisorOf index sum n ≤ rows * levels * (65535 * mostOf Off)
+pub divisor-at-most : (index : Index) (sum : Cell) (n : ℕ) → Within (rows * levels) sum → n ≤ 12884901885 → divisorOf index sum n ≤ rows * levels * (mostEvents * mostOf Off)
 divisor-at-most Saifi sum n p q = omega arith
 divisor-at-most Saidi sum n p q = omega arith
 divisor-at-most Caidi sum n p q = p Off

@@ -8,6 +8,9 @@ use native.Mathlib.Omega.{arith}
 use borrow.Author.Tests.{not-true, not-false}
 use borrow.Author.Needs.{needs}
 use Rattle.ratio.specs.Lowest.{lowestOf}
+use Rattle.codes.specs.Codes.{rows, levels}
+use Rattle.codes.specs.Ranges.{mostEvents}
+use Rattle.annex.specs.Figure.{Off, mostOf}
 use Rattle.ledger.specs.Sound.{soundLedger}
 use Rattle.ledger.proofs.LedgerLaws.{sound-spare}
 use Rattle.index.specs.declared.Answer.the-variants.{Is}
@@ -34,7 +37,7 @@ divides c =
     c .divisor .ensures ∙
     (λ i. divisorOf (c .before .before .before .before .before .before .before .before .before .before .args .index) (c .before .before .total-of .ensures i) (c .before .served .ensures .0 i))
 
-divisor-small : (c : tie.After-divisor) → c .divisor .result ≤ 13762350000000
+divisor-small : (c : tie.After-divisor) → c .divisor .result ≤ rows * levels * (mostEvents * mostOf Off)
 divisor-small c =
     let a = c .before .before .before .before .before .before .before .before .before .before .args in
     rw (c .divisor .ensures)
@@ -67,7 +70,7 @@ returns-3 c =
 
 mul-lowest : tie.Need-mul-lowest
 mul-lowest c =
-    let most : c .weight .result * c .before .before .before .divisor .result ≤ 2 * 13762350000000 = mul-le-mul (c .weight .ensures .1) (divisor-small (c .before .before .before)) in
+    let most : c .weight .result * c .before .before .before .divisor .result ≤ 2 * (rows * levels * (mostEvents * mostOf Off)) = mul-le-mul (c .weight .ensures .1) (divisor-small (c .before .before .before)) in
     omega arith
 
 returns-4 : tie.Need-returns-4
