@@ -7,6 +7,7 @@ ghost use Rattle.annex.specs.Inside.{Room, Ready};
 ghost use Rattle.annex.specs.Simple.{halvesOf, simpleFigures, InOrder};
 ghost use Rattle.annex.specs.Stepped.{begun, coursed};
 ghost use Rattle.annex.specs.Times.{minutesIn, isShort};
+use codes::LEVELS;
 
 // The most that one event gives a level: customers, and half customer-minutes.
 pub const MOST_OFF: u64 = 10000000;
@@ -24,14 +25,14 @@ pub struct HalfMinutes(pub u64);
 // What the step fold carries and what an event adds, for NN, VN and VVN: the largest counts and the half customer-minutes.
 #[repr(C)]
 pub struct Figures {
-    pub customers: [Customers; 3],
-    pub halves: [HalfMinutes; 3],
+    pub customers: [Customers; LEVELS],
+    pub halves: [HalfMinutes; LEVELS],
 }
 
 // One step of a stepped event: its counts hold up to its time.
 pub struct Step {
     pub time: u32,
-    pub counts: [u32; 3],
+    pub counts: [u32; LEVELS],
 }
 
 // A stepped event so far: the last step's time (T0 before the first), and the figures that its steps fold to.
@@ -47,8 +48,8 @@ pub struct Simple {
     pub t2: u32,
     pub t3: u32,
     pub t4: u32,
-    pub n1: [u32; 3],
-    pub n2: [u32; 3],
+    pub n1: [u32; LEVELS],
+    pub n2: [u32; LEVELS],
 }
 
 // The minutes of a year from 2000 to 2099.
@@ -103,7 +104,7 @@ impl Figures {
     }
 
     // The figures with a step whose counts held for so many minutes.
-    fn with_step(self, counts: [u32; 3], minutes: u32) -> Figures
+    fn with_step(self, counts: [u32; LEVELS], minutes: u32) -> Figures
         requires { ⌜ Room self × (minutes ≤ latest) ⌝ }
         ensures { λ r. ⌜ r ≡ withStep self counts minutes ⌝ }
     {

@@ -12,7 +12,7 @@ use borrow.Author.Tests.{eq-eqb, le-leb, ltb-false, lt-ltb, le-ltb}
 use Rattle.base.specs.Lists.{All}
 use Rattle.base.proofs.TestLaws.{and-both, or-left, or-right, or-both}
 use Rattle.base.proofs.ChainLaws.{andOf}
-use Rattle.codes.specs.Codes.{levelOf}
+use Rattle.codes.specs.Codes.{levels, levelOf}
 use Rattle.annex.specs.declared.Figures.{Figures}
 use Rattle.annex.specs.declared.Step.{Step}
 use Rattle.annex.specs.Figures.{nothing, customersAt, halvesAt, withStep}
@@ -39,8 +39,8 @@ open-of :
     s .head .t0 ≤ s .last →
     s .last ≤ 600000 →
     s .steps ≤ 64 →
-    ((h : ℕ) → h < 3 → customersAt (s .figures) h ≤ 10000000) →
-    ((h : ℕ) → h < 3 → halvesAt (s .figures) h ≤ 2 * customersAt (s .figures) h * (s .last - s .head .t0)) →
+    ((h : ℕ) → h < levels → customersAt (s .figures) h ≤ 10000000) →
+    ((h : ℕ) → h < levels → halvesAt (s .figures) h ≤ 2 * customersAt (s .figures) h * (s .last - s .head .t0)) →
     figuresAbove (levelOf (s .head .voltage)) (s .figures) ≡ false →
     (ltb 0 (s .steps) || (eqb (s .last) (s .head .t0) && noCustomers (s .figures))) ≡ true →
     openSound s ≡ true
@@ -72,16 +72,16 @@ open-of s listed early begun ended few most brief below unstepped =
     within : ℕ → Bool
     within h = levelWithin (customersAt (s .figures) h) (halvesAt (s .figures) h) (s .last - s .head .t0)
 
-    level : (h : ℕ) → h < 3 → within h ≡ true
+    level : (h : ℕ) → h < levels → within h ≡ true
     level h l =
         and-both (leb (customersAt (s .figures) h) 10000000) (leb (halvesAt (s .figures) h) (2 * customersAt (s .figures) h * (s .last - s .head .t0)))
         (le-leb _ _ (most h l)) (le-leb _ _ (brief h l))
 
 -- an outage that begins
-nothing-customers : (h : ℕ) → h < 3 → customersAt nothing h ≡ 0
+nothing-customers : (h : ℕ) → h < levels → customersAt nothing h ≡ 0
 nothing-customers = each-level _ refl refl refl
 
-nothing-halves : (h : ℕ) → h < 3 → halvesAt nothing h ≡ 0
+nothing-halves : (h : ℕ) → h < levels → halvesAt nothing h ≡ 0
 nothing-halves = each-level _ refl refl refl
 
 nothing-below : (level : ℕ) → figuresAbove level nothing ≡ false
@@ -138,7 +138,7 @@ above-none level k m n p q = go (ltb level k) refl
 module _ (level : ℕ) (f : Figures) (counts : List ℕ) (minutes : ℕ) where
   level-below :
       (h : ℕ) →
-      h < 3 →
+      h < levels →
       (ltb level h && ltb 0 (customersAt f h)) ≡ false →
       (ltb level h && ltb 0 (getD counts h 0)) ≡ false →
       (ltb level h && ltb 0 (customersAt (withStep f counts minutes) h)) ≡ false
@@ -157,13 +157,13 @@ module _ (level : ℕ) (f : Figures) (counts : List ℕ) (minutes : ℕ) where
 
 -- an open slot, a step later
 module _ (s : Slot) (st : Step) (o : openSound s ≡ true) (before : s .last ≤ st .time) (few : Few 10000000 (st .counts)) where
-  abbrev customers-then : (h : ℕ) → h < 3 → customersAt (steppedBy s st .figures) h ≡ max (customersAt (s .figures) h) (getD (st .counts) h 0)
+  abbrev customers-then : (h : ℕ) → h < levels → customersAt (steppedBy s st .figures) h ≡ max (customersAt (s .figures) h) (getD (st .counts) h 0)
   customers-then = step-customers (s .figures) (st .counts) (st .time - s .last)
 
-  stepped-most : (h : ℕ) → h < 3 → customersAt (steppedBy s st .figures) h ≤ 10000000
+  stepped-most : (h : ℕ) → h < levels → customersAt (steppedBy s st .figures) h ≤ 10000000
   stepped-most h l = subst (λ c. c ≤ 10000000) (sym (customers-then h l)) (max-le (open-customers s o h l) (few-at few h l))
 
-  stepped-brief : (h : ℕ) → h < 3 → halvesAt (steppedBy s st .figures) h ≤ 2 * customersAt (steppedBy s st .figures) h * (st .time - s .head .t0)
+  stepped-brief : (h : ℕ) → h < levels → halvesAt (steppedBy s st .figures) h ≤ 2 * customersAt (steppedBy s st .figures) h * (st .time - s .head .t0)
   stepped-brief h l =
       let t = step-halves (s .figures) (st .counts) (st .time - s .last) h l in
       let grown = halves-grow (customersAt (s .figures) h) (getD (st .counts) h 0) (halvesAt (s .figures) h) (s .head .t0) (s .last) (st .time) (open-halves s o h l) (open-in-order s o) before in

@@ -6,12 +6,13 @@ ghost use Rattle.fields.specs.Fields.{sheetIn, headIn, simpleIn, stepAt}
 ghost use Rattle.fields.specs.Tests.{inRange, headListed};
 use annex::Simple;
 use annex::Step;
+use codes::LEVELS;
 
 // The year sheet, or none: then all is zero.
 pub struct Sheet {
     pub there: bool,
     pub year: u16,
-    pub totals: [u32; 3],
+    pub totals: [u32; LEVELS],
 }
 
 // What a simple event, a stepped event and an opened outage begin with.

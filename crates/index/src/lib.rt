@@ -8,6 +8,7 @@ ghost use Rattle.index.specs.Inside.{Fit, Low};
 ghost use Rattle.index.specs.Index.{topOf, divisorOf, weightOf, exactly, indexNumbers, decimalNumbers};
 use annex::Customers;
 use annex::HalfMinutes;
+use codes::LEVELS;
 use codes::NO_ROW;
 use codes::ROWS;
 use codes::Set;
@@ -105,7 +106,7 @@ fn wide(x: u32) -> u64
 }
 
 // The customers served on a level or in the network: N.
-fn served(totals: [u32; 3], level: Level) -> u64
+fn served(totals: [u32; LEVELS], level: Level) -> u64
     ensures { λ r. ⌜ (r ≡ customersOf totals level) × (r ≤ 12884901885) ⌝ }
 {
     match level {

@@ -4,23 +4,24 @@ ghost use Rattle.annex.specs.declared.Figures.{Figures};
 ghost use Rattle.limits.specs.Limits.{exceeding, aboveLevel, exceedingFigures, figuresAbove, lateStep, simpleLate, noneThenSome};
 use annex::Figures;
 use annex::Simple;
+use codes::LEVELS;
 
 // Whether a count exceeds its level's customers.
-pub fn exceeds(counts: [u32; 3], totals: [u32; 3]) -> bool
+pub fn exceeds(counts: [u32; LEVELS], totals: [u32; LEVELS]) -> bool
     ensures { λ r. ⌜ r ≡ exceeding totals counts ⌝ }
 {
     (totals[0] < counts[0]) | (totals[1] < counts[1]) | (totals[2] < counts[2])
 }
 
 // Whether a count above 0 stands on a level higher than the event's.
-pub fn is_above(counts: [u32; 3], level: u8) -> bool
+pub fn is_above(counts: [u32; LEVELS], level: u8) -> bool
     ensures { λ r. ⌜ r ≡ aboveLevel level counts ⌝ }
 {
     ((level < 1) & (0 < counts[1])) | ((level < 2) & (0 < counts[2]))
 }
 
 // The same two tests of the largest counts of all steps: some step's count exceeds, or stands above, just where the largest does.
-pub fn figures_exceed(figures: Figures, totals: [u32; 3]) -> bool
+pub fn figures_exceed(figures: Figures, totals: [u32; LEVELS]) -> bool
     ensures { λ r. ⌜ r ≡ exceedingFigures totals figures ⌝ }
 {
     let c = figures.customers;

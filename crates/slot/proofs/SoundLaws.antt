@@ -64,17 +64,17 @@ module _ (s : Slot) where
   pub open-steps : openSound s ≡ true → s .steps ≤ 64
   open-steps o = leb-true _ _ (open-tests o .1 .1 .1 .1 .0)
 
-  pub open-level : openSound s ≡ true → (level : ℕ) → level < 3 → within level ≡ true
+  pub open-level : openSound s ≡ true → (level : ℕ) → level < levels → within level ≡ true
   open-level o =
       each-level (λ level. within level ≡ true)
       (open-tests o .1 .1 .1 .1 .1 .0)
       (open-tests o .1 .1 .1 .1 .1 .1 .0)
       (open-tests o .1 .1 .1 .1 .1 .1 .1 .0)
 
-  pub open-customers : openSound s ≡ true → (level : ℕ) → level < 3 → customersAt (s .figures) level ≤ 10000000
+  pub open-customers : openSound s ≡ true → (level : ℕ) → level < levels → customersAt (s .figures) level ≤ 10000000
   open-customers o level l = leb-true _ _ (and-left (leb (customersAt (s .figures) level) 10000000) _ (open-level o level l))
 
-  pub open-halves : openSound s ≡ true → (level : ℕ) → level < 3 → halvesAt (s .figures) level ≤ 2 * customersAt (s .figures) level * (s .last - s .head .t0)
+  pub open-halves : openSound s ≡ true → (level : ℕ) → level < levels → halvesAt (s .figures) level ≤ 2 * customersAt (s .figures) level * (s .last - s .head .t0)
   open-halves o level l = leb-true _ _ (and-right (leb (customersAt (s .figures) level) 10000000) _ (open-level o level l))
 
   pub open-none-above : openSound s ≡ true → figuresAbove (levelOf (s .head .voltage)) (s .figures) ≡ false

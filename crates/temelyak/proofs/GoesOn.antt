@@ -12,6 +12,7 @@ use borrow.Author.Tests.{eqb-true, eqb-false, leb-true, not-false}
 use Rattle.base.proofs.TestLaws.{Tested, holds, fails, test, and-left, and-right, or-right}
 use Rattle.wire.specs.Frame.{kindOf}
 use Rattle.wire.specs.Cut.{recordsOf}
+use Rattle.codes.specs.Codes as codes
 use Rattle.annex.specs.Times.{isShort}
 use Rattle.annex.specs.Simple.{simpleFigures}
 use Rattle.annex.specs.Stepped.{lastTime, steppedFigures}
@@ -48,7 +49,7 @@ use Rattle.temelyak.proofs.CallLaws.{behind-accepts, into-accepts}
 -- a sheet whose numbers fit
 pub record SheetFits (s : Sheet) : Type 0 where
   pub year : s .year ≤ 65535
-  pub levels : length (s .totals) ≡ 3
+  pub levels : length (s .totals) ≡ codes.levels
   pub nn : getD (s .totals) 0 0 ≤ 4294967295
   pub vn : getD (s .totals) 1 0 ≤ 4294967295
   pub vvn : getD (s .totals) 2 0 ≤ 4294967295
@@ -56,7 +57,7 @@ pub record SheetFits (s : Sheet) : Type 0 where
 sheet-of : (l : Ledger) → Fitting l → SheetFits (l .sheet)
 sheet-of l f = record { year = f .year; levels = f .totals; nn = f .nn; vn = f .vn; vvn = f .vvn }
 
-in-range-fits : (s : Sheet) → length (s .totals) ≡ 3 → inRange s ≡ true → SheetFits s
+in-range-fits : (s : Sheet) → length (s .totals) ≡ codes.levels → inRange s ≡ true → SheetFits s
 in-range-fits s n e =
     let low = leb 2000 (s .year) in
     let high = leb (s .year) 2099 in
@@ -95,12 +96,12 @@ sound-of : (l : Ledger) (m : List ℕ) → unsound l m ≡ false → soundLedger
 sound-of l m u = not-false (soundLedger l) (or-right (not (eqb (length m) 8192)) (not (soundLedger l)) u)
 
 -- an accepted record's sheet is the ledger's or its own, with three totals either way
-pick : (a b : Bool) (x y z : Verdict) → length (x .sheet .totals) ≡ 3 → length (y .sheet .totals) ≡ 3 → length (z .sheet .totals) ≡ 3 → length (cond a x (cond b y z) .sheet .totals) ≡ 3
+pick : (a b : Bool) (x y z : Verdict) → length (x .sheet .totals) ≡ codes.levels → length (y .sheet .totals) ≡ codes.levels → length (z .sheet .totals) ≡ codes.levels → length (cond a x (cond b y z) .sheet .totals) ≡ codes.levels
 pick true b x y z h i j = h
 pick false true x y z h i j = i
 pick false false x y z h i j = j
 
-three-totals : (kind : ℕ) (s : List ℕ) (sheet : Sheet) → length (sheet .totals) ≡ 3 → length (acceptedAt kind s sheet .sheet .totals) ≡ 3
+three-totals : (kind : ℕ) (s : List ℕ) (sheet : Sheet) → length (sheet .totals) ≡ codes.levels → length (acceptedAt kind s sheet .sheet .totals) ≡ codes.levels
 unfolding eventVerdict
 three-totals kind s sheet n =
     pick (eqb kind 1) (eqb kind 2) (sheetVerdict (sheetIn s))
@@ -116,10 +117,10 @@ module _ (l : Ledger) (m s : List ℕ) (f : Fitting l) where
   accepted-fits a =
       let sound = sound-of l m (accepted-sound l m s a) in
       let fair = verdict-fits l m s sound .fair in
-      let levels : length (verdict .sheet .totals) ≡ 3 = ap (λ (v : Verdict). length (v .sheet .totals)) (accepted-verdict l m s a) ∙ three-totals (kindOf s) s (l .sheet) (f .totals) in
+      let levels : length (verdict .sheet .totals) ≡ codes.levels = ap (λ (v : Verdict). length (v .sheet .totals)) (accepted-verdict l m s a) ∙ three-totals (kindOf s) s (l .sheet) (f .totals) in
       added-fits l verdict f (go levels (fair .goes-on)) (fair .room) (omega (arith, sound-short l sound, fair .short, fair .room))
     where
-      go : length (verdict .sheet .totals) ≡ 3 →
+      go : length (verdict .sheet .totals) ≡ codes.levels →
           ((verdict .sheet ≡ l .sheet) × ((l .sheet .there ≡ true) ⊎ (verdict .events ≡ 0))) ⊎ ((l .sheet .there ≡ false) × (verdict .sheet .there ≡ true) × (inRange (verdict .sheet) ≡ true) × (verdict .events ≡ 0)) →
           SheetFits (verdict .sheet)
       go n (inl (same, still)) = subst⁻¹ SheetFits same (sheet-of l f)

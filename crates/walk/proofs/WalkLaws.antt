@@ -11,6 +11,7 @@ use native.Mathlib.Nat.{not-suc-le-zero}
 use native.Mathlib.Numerals.{sub-one}
 use Rattle.base.specs.Lists.{any, largest}
 use Rattle.base.proofs.TestLaws.{or-left, or-right, or-both, Tested, holds, fails, test}
+use Rattle.codes.specs.Codes.{levels}
 use Rattle.annex.specs.declared.Course.{Course}
 use Rattle.annex.specs.declared.Step.{Step}
 use Rattle.annex.specs.Figures.{customersAt}
@@ -127,7 +128,7 @@ any-and false f (s ∷ ss) = any-and false f ss
 pub exceed-by-largest :
     (totals : List ℕ) (t0 : ℕ) (ss : List Step) → exceedingFigures totals (steppedFigures t0 ss) ≡ any (λ (st : Step). exceeding totals (st .counts)) ss
 exceed-by-largest totals t0 ss =
-    let at : (h : ℕ) → h < 3 → ltb (getD totals h 0) (customersAt (steppedFigures t0 ss) h) ≡ any (λ (st : Step). ltb (getD totals h 0) (getD (st .counts) h 0)) ss =
+    let at : (h : ℕ) → h < levels → ltb (getD totals h 0) (customersAt (steppedFigures t0 ss) h) ≡ any (λ (st : Step). ltb (getD totals h 0) (getD (st .counts) h 0)) ss =
     λ h l. ap (ltb (getD totals h 0)) (stepped-customers h l t0 ss) ∙ largest-test (getD totals h 0) h ss in
     (λ i. at 0 (omega arith) i || at 1 (omega arith) i || at 2 (omega arith) i) ∙
     sym
@@ -139,7 +140,7 @@ exceed-by-largest totals t0 ss =
 pub above-by-largest :
     (level t0 : ℕ) (ss : List Step) → figuresAbove level (steppedFigures t0 ss) ≡ any (λ (st : Step). aboveLevel level (st .counts)) ss
 above-by-largest level t0 ss =
-    let at : (h : ℕ) → h < 3 → ltb 0 (customersAt (steppedFigures t0 ss) h) ≡ any (λ (st : Step). ltb 0 (getD (st .counts) h 0)) ss =
+    let at : (h : ℕ) → h < levels → ltb 0 (customersAt (steppedFigures t0 ss) h) ≡ any (λ (st : Step). ltb 0 (getD (st .counts) h 0)) ss =
     λ h l. ap (ltb 0) (stepped-customers h l t0 ss) ∙ largest-test 0 h ss in
     (λ i. (ltb level 1 && at 1 (omega arith) i) || (ltb level 2 && at 2 (omega arith) i)) ∙
     sym
