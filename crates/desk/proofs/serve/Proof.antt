@@ -2,7 +2,7 @@
 -- For `planned` the desk and the map are lent as `&`, each for a lifetime that the walk makes. To `slot_put` and `mark` the two slices go for good, each at its own lifetime, share and ghost name (`gave-slice`). The message is Copy.
 -- Assumes nothing.
 use mathlib.Core.Path.{_≡_, refl, sym, _∙_, ap, subst}
-use Prim.Native.Nat.{ℕ, _<_, _^_}
+use Prim.Native.Nat.{ℕ, _+_, _*_, _<_, _^_}
 use mathlib.Core.Logic.{_≢_}
 use mathlib.Core.Bool.{not}
 use mathlib.Core.List.{List, [], _∷_}
@@ -42,6 +42,7 @@ use denote.Triple.Statement.{Contract, Triple}
 use denote.Triple.Call.{calls-at}
 use denote.Triple.Clauses.{ensured, lasts}
 use denote.Triple.Table.{entered, cited}
+use Rattle.codes.specs.Codes.{rows, levels}
 use Rattle.used_numbers.specs.Marks.{markedWith}
 use Rattle.ledger.specs.declared.Ledger.{Ledger}
 use Rattle.desk_rules.specs.declared.Served.{Served}
@@ -88,6 +89,16 @@ stayed = (stay-none (λ _. LedgerR) yes, (gave-slice (0 ∷ []) tt (plain (λ _.
 -- the types of a plan's fields
 abbrev parts : Tys
 parts = tcons TServed′.mir (tcons (tyInt w64) (tcons TSlot′.mir (tcons (tyInt w16) tnil)))
+
+-- where at, slot and number lie in a plan: behind a served ledger, which has 32 bytes and 16 for each cell
+abbrev at-lies : ℕ
+at-lies = 32 + rows * levels * 16
+
+abbrev slot-lies : ℕ
+slot-lies = at-lies + 8
+
+abbrev number-lies : ℕ
+number-lies = slot-lies + 72
 
 module _ {M : Type 1} (𝓤 : URA M) (H : Heap 𝓤) (A : Atoms 𝓤) (mem : Memory → SProp 𝓤) (run : Routine → Fun 𝓤) where
   -- the contracts that the proof cites
@@ -244,11 +255,11 @@ module _ {M : Type 1} (𝓤 : URA M) (H : Heap 𝓤) (A : Atoms 𝓤) (W : Given
         move ! (2 ∷ []) $ lft-end ! tt $ move ! (0 ∷ 5 ∷ []) $ use2 W (later (‵ Own₁ ⊛ ‵ (flft κ₁ q₁))) (out-back R κ₁ (ν₁ ∷ []) q₁ γ₁ b₁ c₁ ys 𝓤 H A W (named 1) (named 0) room₁) $ await ! tt $ split ! $
         move ! (3 ∷ []) $ lft-end ! tt $ move ! (0 ∷ 5 ∷ []) $ use2 W (later (‵ Own₀ ⊛ ‵ (flft κ₀ q₀))) (out-back u8 κ₀ (ν₀ ∷ []) q₀ γ₀ b₀ c₀ bs 𝓤 H A W (named 0) (named 1) room₀) $ await ! tt $ split ! $
         let fields = LL.owed TPlan.the-type TPlan′.the-laws p _ is₁ in
-        -- `slot_put`: of the plan, at, slot and number lie at the offsets 368, 376 and 448
+        -- `slot_put`
         assigns ! (addr ! (from ! (fld ! refl (hop ! (look-in ! 32 (sub ! 0 refl (whole !))) (stop !))))) (from ! (stop !)) (init ! 12 refl (tt, tt)) $
         assigns ! (agg ! (and-then ! (load ! (from ! (stop !)) (look ! 12 refl)) (and-then ! (load ! (from ! (fld ! refl (stop !))) (look-in ! 32 (sub ! 1 refl (whole !)))) (no-more !)))) (from ! (stop !)) (init ! 10 refl (tt, (tt, (record { fits = room₁ .0 }, tt)))) $
         move ! (3 ∷ 2 ∷ []) $ use2 W (raw (SlotPut 𝓤 H A mem run .pre to-slot-put)) (goes-slot-put (fields .1 .0 .1) (fields .1 .1 .0)) $
-        calls-at ! fm (SlotPut 𝓤 H A mem run) known-slot-put to-slot-put (and-then ! (load ! (from ! (stop !)) (look ! 9 refl)) (and-then ! (load ! (from ! (fld ! {τ = tyInt w64} {d = 368} refl (stop !))) (look-in ! 27 {τ = tyInt w64} (sub ! {τs = parts} 1 {τ = tyInt w64} {d = 368} refl (whole !)))) (and-then ! (load ! (from ! (fld ! {τ = TSlot′.mir} {d = 376} refl (stop !))) (look-in ! 27 {τ = TSlot′.mir} (sub ! {τs = parts} 2 {τ = TSlot′.mir} {d = 376} refl (whole !)))) (no-more !)))) (λ w₂.
+        calls-at ! fm (SlotPut 𝓤 H A mem run) known-slot-put to-slot-put (and-then ! (load ! (from ! (stop !)) (look ! 9 refl)) (and-then ! (load ! (from ! (fld ! {τ = tyInt w64} {d = at-lies} refl (stop !))) (look-in ! 27 {τ = tyInt w64} (sub ! {τs = parts} 1 {τ = tyInt w64} {d = at-lies} refl (whole !)))) (and-then ! (load ! (from ! (fld ! {τ = TSlot′.mir} {d = slot-lies} refl (stop !))) (look-in ! 27 {τ = TSlot′.mir} (sub ! {τs = parts} 2 {τ = TSlot′.mir} {d = slot-lies} refl (whole !)))) (no-more !)))) (λ w₂.
         use1 W (later (some (λ (r : Unit {0}). ((‵ (flft κ₁ q₁) ⊛ ‵ ftrue) ⊛ ‵ (unit .own r (w₂ ∷ []))) ⊛ raw (ensured 𝓤 H A slot-put.ended (slot-put.clauses 𝓤 H A mem run) (to-slot-put .0 .0) (to-slot-put .0 .3) tt r)))) (id⊢ 𝓤 _) $ await ! tt $ pick ! (λ r₂.
         split ! $ move ! (1 ∷ []) $ use1 W (some (λ (zs : List Slot × (Unit {0} × (Unit {0} × Unit {0}))). ‵ (lasts slot-put.ended (κ₁, tt) (to-slot-put .0 .3) zs) ⊛ raw (fact 𝓤 (zs .0 ≡ set ys (p .at) (p .slot))))) (id⊢ 𝓤 _) $ pick ! (λ zs₂.
         split ! $ move ! (1 ∷ []) $ heard ! (zs₂ .0 ≡ set ys (p .at) (p .slot)) (λ e₂. fsplit ! $ fsplit ! $ move ! (1 ∷ []) $ feqL ! (λ n₂. move ! (1 ∷ []) $ drop ! $ move ! (1 ∷ []) $ split ! $ split ! $ move ! (1 ∷ []) $ drop ! $ move ! (1 ∷ []) $ feqL ! (λ u₂.
@@ -257,7 +268,7 @@ module _ {M : Type 1} (𝓤 : URA M) (H : Heap 𝓤) (A : Atoms 𝓤) (W : Given
         assigns ! (addr ! (from ! (fld ! refl (hop ! (look-in ! 34 (sub ! 0 refl (whole !))) (stop !))))) (from ! (stop !)) (init ! 8 refl (tt, tt)) $
         assigns ! (agg ! (and-then ! (load ! (from ! (stop !)) (look ! 8 refl)) (and-then ! (load ! (from ! (fld ! refl (stop !))) (look-in ! 34 (sub ! 1 refl (whole !)))) (no-more !)))) (from ! (stop !)) (init ! 6 refl (tt, (tt, (record { fits = room₀ .0 }, tt)))) $
         move ! (3 ∷ 2 ∷ []) $ use2 W (raw (Mark 𝓤 H A mem run .pre to-mark)) (goes-mark (fields .1 .1 .1 .0 .1)) $
-        calls-at ! fm (Mark 𝓤 H A mem run) known-mark to-mark (and-then ! (load ! (from ! (stop !)) (look ! 5 refl)) (and-then ! (load ! (from ! (fld ! {τ = tyInt w16} {d = 448} refl (stop !))) (look-in ! 27 {τ = tyInt w16} (sub ! {τs = parts} 3 {τ = tyInt w16} {d = 448} refl (whole !)))) (no-more !))) (λ w₃.
+        calls-at ! fm (Mark 𝓤 H A mem run) known-mark to-mark (and-then ! (load ! (from ! (stop !)) (look ! 5 refl)) (and-then ! (load ! (from ! (fld ! {τ = tyInt w16} {d = number-lies} refl (stop !))) (look-in ! 27 {τ = tyInt w16} (sub ! {τs = parts} 3 {τ = tyInt w16} {d = number-lies} refl (whole !)))) (no-more !))) (λ w₃.
         use1 W (later (some (λ (r : Unit {0}). ((‵ (flft κ₀ q₀) ⊛ ‵ ftrue) ⊛ ‵ (unit .own r (w₃ ∷ []))) ⊛ raw (ensured 𝓤 H A mark.ended (mark.clauses 𝓤 H A mem run) (to-mark .0 .0) (to-mark .0 .3) tt r)))) (id⊢ 𝓤 _) $ await ! tt $ pick ! (λ r₃.
         split ! $ move ! (1 ∷ []) $ use1 W (some (λ (zs : List ℕ × (Unit {0} × Unit {0})). ‵ (lasts mark.ended (κ₀, tt) (to-mark .0 .3) zs) ⊛ raw (fact 𝓤 (zs .0 ≡ markedWith bs (p .number))))) (id⊢ 𝓤 _) $ pick ! (λ zs₃.
         split ! $ move ! (1 ∷ []) $ heard ! (zs₃ .0 ≡ markedWith bs (p .number)) (λ e₃. fsplit ! $ fsplit ! $ move ! (1 ∷ []) $ feqL ! (λ n₃. move ! (1 ∷ []) $ drop ! $ move ! (1 ∷ []) $ split ! $ split ! $ move ! (1 ∷ []) $ drop ! $ move ! (1 ∷ []) $ feqL ! (λ u₃.
