@@ -20,7 +20,7 @@ use Rattle.law_adding.proofs.IndexLaws.{saifi-adds, saidi-adds}
 use Rattle.law_adding.proofs.NobodyLaws.{none-off}
 use Rattle.law_adding.proofs.WeighLaws.{saifi-weighs, saidi-weighs}
 
--- a set's types are different types of 9.2, and so are 13 to 16
+-- a set's types are different types of 9.2, and so are those that 'std' leaves out
 pub set-once : (set : Set) → eachOnce (typesIn set) ≡ true
 unfolding rowOf
 set-once All = refl

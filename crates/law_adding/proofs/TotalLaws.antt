@@ -47,7 +47,7 @@ module _ (l : Ledger) where
       across-alike level _ _ (level-holds x 0 set) (level-holds x 1 set) (level-holds x 2 set) ∙
       sym (sum-across level (λ (typ : ℕ) (h : Level). heldIn x l (rowOf typ) (columnOf h)) (typesIn set))
 
-  -- the types 13 to 16, as the index's laws add them
+  -- the types that 'std' leaves out, as the index's laws add them
   rest-is : (x : Figure) (level : Level) → typesHold x l level rest ≡ held x (restOf (l .rows) level)
   unfolding levelRest rowHeld rowOf
   rest-is Off NN = omega arith

@@ -1,9 +1,10 @@
 -- The worked year (003, 10.2; 01, "Worked year") meets what the theorems ask, and its figures are not 0; there CAIDI does not add. All of it is computed
 -- from the year's bytes. Assumes nothing.
-use Prim.Native.Nat.{ℕ}
+use Prim.Native.Nat.{ℕ, _-_}
 use mathlib.Core.Path.{_≡_, refl, sym, subst}
 use mathlib.Core.List.{List, [], _∷_, _++_, map}
 use mathlib.Core.Bool.{true}
+use lib.ListN.{replicate}
 use native.Mathlib.Omega.{arith}
 use Rattle.wire.specs.Book.{placeAt}
 use Rattle.wire.specs.Cut.{cutIn, recordsOf, stopFrom, stopIn}
@@ -11,7 +12,7 @@ use Rattle.ratio.specs.declared.Fraction.{Fraction}
 use Rattle.ratio.specs.Lowest.{euclid, gcdOf, lowestOf}
 use Rattle.codes.specs.declared.Set.{Set}
 use Rattle.codes.specs.declared.Set.the-variants.{All, Std}
-use Rattle.codes.specs.Codes.{rowOf, levelOf, causes, causeListed, rowHeld}
+use Rattle.codes.specs.Codes.{rows, rowOf, levelOf, causes, causeListed, rowHeld}
 use Rattle.annex.specs.Times.{minutesIn, isShort}
 use Rattle.annex.specs.Figures.{customers, halfMinutes, withStep}
 use Rattle.annex.specs.Simple.{simpleFigures}
@@ -59,7 +60,7 @@ yearLedger =
           row (cell 2000 150000) (cell 10 500) noCell ∷
           emptyRow ∷
           row (cell 1000 8000) (cell 10 80) (cell 1 8) ∷
-          emptyRow ∷ emptyRow ∷ emptyRow ∷ emptyRow ∷ [];
+          replicate (rows - 3) emptyRow;
     }
 
 -- every record is accepted, and each cell is as worked out by hand
@@ -89,7 +90,7 @@ year-halves = rw year-is
 pub year-served : map (customersOf (bookLedger year .sheet .totals)) four ≡ (1000 ∷ 10 ∷ 1 ∷ 1011 ∷ [])
 year-served = rw year-is
 
--- the network under 'std', the types 13 to 16, and 'all', from the year's events: customers, then half minutes
+-- the network under 'std', of the types that 'std' leaves out, and under 'all', from the year's events: customers, then half minutes
 pub year-events :
     map (λ (ts : List ℕ). eventsHold Off ts Network (eventsOf year)) (typesIn Std ∷ rest ∷ typesIn All ∷ []) ≡ (2010 ∷ 1011 ∷ 3021 ∷ [])
 unfolding cutIn recordsOf isShort njh
@@ -103,7 +104,7 @@ year-event-halves = refl
 abbrev over : ℕ → ℕ → Fraction
 over top bottom = record { top = top; bottom = bottom }
 
--- SAIFI and SAIDI of the network under 'all' and 'std', and of the types 13 to 16 alone: 1007/337 = 670/337 + 1011/1011, and so on
+-- SAIFI and SAIDI of the network under 'all' and 'std', and of the types that 'std' leaves out alone: 1007/337 = 670/337 + 1011/1011, and so on
 pub year-saifi :
     (indexOf (bookLedger year) Saifi Network All ≡ Is (over 1007 337)) ×
     (indexOf (bookLedger year) Saifi Network Std ≡ Is (over 670 337)) ×

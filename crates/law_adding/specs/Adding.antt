@@ -31,11 +31,11 @@ pub record LevelsAdd (l : Ledger) (set : Set) : Type 0 where
   pub figures : (x : Figure) → totalHeld x l Network set ≡ overLevels (λ (h : Level). totalHeld x l h set)
   pub served : customersOf (l .sheet .totals) Network ≡ overLevels (customersOf (l .sheet .totals))
 
--- under a set, a level's or the network's are those of the set's types together: under 'all', of the seven
+-- under a set, a level's or the network's are those of the set's types together: under 'all', of every type
 abbrev pub TypesAdd : Ledger → Level → Set → Type 0
 TypesAdd l level set = (x : Figure) → totalHeld x l level set ≡ typesHold x l level (typesIn set)
 
--- those under 'std' and those of the types 13 to 16 are those under 'all'
+-- those under 'std' and those of the types that it leaves out are those under 'all'
 abbrev pub RestAdds : Ledger → Level → Type 0
 RestAdds l level = (x : Figure) → totalHeld x l level Std + typesHold x l level rest ≡ totalHeld x l level All
 
@@ -47,8 +47,8 @@ EventsAdd book level ts = (x : Figure) → typesHold x (bookLedger book) level t
 abbrev pub TotalsAre : List ℕ → Level → Set → Type 0
 TotalsAre book level set = (x : Figure) → totalHeld x (bookLedger book) level set ≡ eventsHold x (typesIn set) level (eventsOf book)
 
--- the index under 'all' is the index under 'std' and that of the types 13 to 16 alone, and it is those of the seven types, each alone: exact fractions
--- over one N, which all exist
+-- the index under 'all' is the index under 'std' and that of the types that 'std' leaves out alone, and it is those of the types, each alone: exact
+-- fractions over one N, which all exist
 pub record IndexAdds (l : Ledger) (index : Index) (level : Level) : Type 0 where
   pub all : Fraction
   pub std : Fraction
@@ -86,7 +86,7 @@ pub record AddsUp (book : List ℕ) : Type 0 where
   pub saifi-weighs : (set : Set) → (customersOf (bookLedger book .sheet .totals) Network ≡ 0 → ⊥) → LevelsWeigh (bookLedger book) Saifi set
   pub saidi-weighs : (set : Set) → (customersOf (bookLedger book .sheet .totals) Network ≡ 0 → ⊥) → LevelsWeigh (bookLedger book) Saidi set
 
--- CAIDI under 'all' is not CAIDI under 'std' and that of the types 13 to 16 alone, though all three exist
+-- CAIDI under 'all' is not CAIDI under 'std' and that of the types that 'std' leaves out alone, though all three exist
 pub record CaidiApart (l : Ledger) (level : Level) : Type 0 where
   pub all : Fraction
   pub std : Fraction
