@@ -359,9 +359,9 @@ fn print_slot(s: Slot) {
 }
 
 // The cells of a type's row; those of the first where the type is not listed.
-fn cells_of(l: Ledger, typ: u64) -> [Cell; 3] {
+fn cells_of(l: Ledger, typ: u64) -> [Cell; codes::LEVELS] {
     let rows = l.rows;
-    let at = (codes::row_of(byte(typ)) % 7) as usize;
+    let at = (codes::row_of(byte(typ)) % codes::NO_ROW) as usize;
     let row = rows[at];
     row.levels
 }
