@@ -23,8 +23,8 @@ extern "C" {
 
 /* ---- limits */
 
-/* How many 64-bit words a ledger has. */
-#define TEMELYAK_LEDGER_WORDS 49u
+/* How many 64-bit words a ledger has: seven, and two for each cell. */
+#define TEMELYAK_LEDGER_WORDS (7u + TEMELYAK_ROWS * TEMELYAK_LEVELS * 2u)
 /* How many bytes a map of used event numbers has. */
 #define TEMELYAK_MAP_BYTES 8192u
 /* How many slots a desk has. */

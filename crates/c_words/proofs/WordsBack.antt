@@ -143,7 +143,7 @@ words-same ws e = before-same ws (fit ws e)
 rest-length : (ws : List ℕ) → length ws ≡ ledgerWords → length (drop wordsFirst ws) ≡ rows * rowWords
 rest-length ws e = length-drop wordsFirst ws ∙ ap (λ n. n - wordsFirst) e
 
--- 49 words hold a ledger with all its rows and levels, and words that fit one whose numbers fit too
+-- as many words as a ledger has hold one with all its rows and levels, and words that fit one whose numbers fit too
 pub held-shaped : (ws : List ℕ) → length ws ≡ ledgerWords → Shaped (ledgerIn ws)
 unfolding ledgerIn
 held-shaped ws e =

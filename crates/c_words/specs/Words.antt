@@ -13,7 +13,7 @@ use Rattle.ledger.specs.declared.TypeRow.{TypeRow}
 use Rattle.ledger.specs.declared.Ledger.{Ledger}
 use Rattle.ledger.specs.Ledger.{noCell, Shaped}
 
--- how many words stand before the rows, how many a row has, and how many a ledger has: 49
+-- how many words stand before the rows, how many a row has, and how many a ledger has: TEMELYAK_LEDGER_WORDS
 abbrev pub wordsFirst : ℕ
 wordsFirst = 7
 

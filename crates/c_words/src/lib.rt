@@ -1,4 +1,4 @@
-// A ledger lent by C as 49 words under the header's word (include/temelyak.h): the ledger that the words hold, handed on to the call behind, and what
+// A ledger lent by C as words of 64 bits under the header's word (include/temelyak.h): the ledger that the words hold, handed on to the call behind, and what
 // that call answers written back where the answer is 0.
 ghost use mathlib.Core.Path.{_≡_};
 ghost use mathlib.Core.List.{_∷_, [], _++_};
@@ -24,8 +24,10 @@ const ROW: usize = LEVELS * 2;
 
 pub const WORDS: usize = FIRST + ROWS * ROW;
 
-// The header word: version 1, so many words a ledger, 72 bytes a slot.
-const HEADER: u64 = 4294967296 + WORDS as u64 * 65536 + 72;
+// The version of the header, and the header word: it, so many words a ledger, 72 bytes a slot.
+pub const VERSION: u64 = 1;
+
+const HEADER: u64 = VERSION * 4294967296 + WORDS as u64 * 65536 + 72;
 
 // What is answered where an output has another size.
 pub const OTHER_SIZE: u8 = 251;
@@ -153,7 +155,7 @@ fn put_row(words: &mut [u64], at: usize, cells: [Cell; LEVELS])
     put_cell(words, at + 4, cells[2]);
 }
 
-// Writes the rows over the words after the first seven.
+// Writes the rows over the words after the first FIRST.
 fn write_rows(words: &mut [u64], rows: [TypeRow; ROWS])
     requires { ⌜ length (now words) ≡ ledgerWords ⌝ }
     ensures { λ _. ⌜ now (words .exit) ≡ take wordsFirst (now (words .entry)) ++ cellWords (cellsIn rows) ⌝ }

@@ -1,4 +1,4 @@
-// The library for C (include/temelyak.h): a ledger is lent as 49 words, and every call answers a number. Each exported function reads the ledger,
+// The library for C (include/temelyak.h): a ledger is lent as words of 64 bits, and every call answers a number. Each exported function reads the ledger,
 // hands it to the call behind it, and writes it back where the answer is 0.
 ghost use mathlib.Core.Path.{_≡_};
 ghost use Rattle.temelyak.specs.Calls.{emptyAnswer, emptyWords, takeAnswer, takeWords, takeMap, bookAnswer, bookWords, bookMap, bookOut, serveAnswer, serveWords, serveMap, serveDesk, indexAnswer, indexOut, decimalAnswer, decimalOut, builtOf};
@@ -173,10 +173,10 @@ pub extern "C" fn temelyak_built(which: u32) -> u64
     ensures { λ r. ⌜ r ≡ builtOf which ⌝ }
 {
     if which == 0 {
-        return 1;
+        return c_words::VERSION;
     }
     if which == 1 {
-        return 49;
+        return c_words::WORDS as u64;
     }
     if which == 2 {
         return 72;

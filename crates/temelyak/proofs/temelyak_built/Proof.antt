@@ -4,6 +4,8 @@ use mathlib.Core.List.{[], _∷_}
 use lib.ListN.{List·getD-eq-default}
 use native.Mathlib.Omega.{arith}
 use borrow.Author.Needs.{needs}
+use Rattle.c_words.specs.Words.{ledgerWords}
+use Rattle.c_words.specs.Header.{version}
 use Rattle.temelyak.proofs.temelyak_built.Statement.{statement}
 use Rattle.temelyak.proofs.temelyak_built.Tie as tie
 
@@ -15,7 +17,7 @@ returns-4 c = search needs
 
 returns-6 : tie.Need-returns-6
 returns-6 c =
-    sym (List·getD-eq-default (1 ∷ 49 ∷ 72 ∷ 8192 ∷ 32 ∷ []) 0 {n = c .before .before .before .before .before .args .which} (omega arith))
+    sym (List·getD-eq-default (version ∷ ledgerWords ∷ 72 ∷ 8192 ∷ 32 ∷ []) 0 {n = c .before .before .before .before .before .args .which} (omega arith))
 
 pub temelyak-built-spec : {M : Type 1} → statement M
 temelyak-built-spec =
