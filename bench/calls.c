@@ -59,7 +59,7 @@ static void put_open(struct outage *outage, unsigned number) {
     put(13, 2);
     put(16, 2);
     put(number, 2);
-    put(types[below(7)], 1);
+    put(types[below(sizeof types)], 1);
     put(voltage, 1);
     put(24, 1);
     put(outage->time, 4);

@@ -25,14 +25,14 @@ static void counts(int level, uint32_t nn, uint32_t vn, uint32_t vvn) {
 }
 
 static int head(uint32_t length, int kind, uint32_t number, uint32_t t0) {
-  static const uint8_t types[7] = {11, 12, 13, 14, 15, 16, 2};
+  static const uint8_t types[] = {11, 12, 13, 14, 15, 16, 2};
   static const uint8_t causes[6] = {0, 1, 12, 24, 33, 39};
   int voltage = 1 + below(7);
   size = 0;
   put(length, 2);
   put(kind, 2);
   put(number, 2);
-  put(types[below(7)], 1);
+  put(types[below(sizeof types)], 1);
   put(voltage, 1);
   put(causes[below(6)], 1);
   put(t0, 4);

@@ -226,7 +226,8 @@ static void every_ledger_word(uint64_t events) {
     static uint8_t record[MAKE_RECORD];
     make_event event = {.number = 7, .type = 16, .voltage = 7, .t = {0, 0, 50, 50, 50}};
     size_t bytes = make_simple(record, &event);
-    for (int word = 0; word < 49; word++)
+    const int cell_count = PLAIN_TYPES * PLAIN_LEVELS;
+    for (int word = 0; word < 7 + 2 * cell_count; word++)
         for (int change = 0; change < 14; change++) {
             plain_ledger *l = &world.ledger;
             uint64_t *cells[2] = {&l->customers[0][0], &l->half_minutes[0][0]};
@@ -236,12 +237,12 @@ static void every_ledger_word(uint64_t events) {
             l->year = 2099;
             l->events = l->shorts = events;
             for (int level = 0; level < PLAIN_LEVELS; level++) l->totals[level] = PLAIN_MOST_CUSTOMERS;
-            for (int cell = 0; cell < 21; cell++) {
+            for (int cell = 0; cell < cell_count; cell++) {
                 cells[0][cell] = most_customers;
                 cells[1][cell] = most_half_minutes;
             }
             uint64_t *at = word == 0 ? &l->sheet : word == 1 ? &l->year : word < 5 ? &l->totals[word - 2] : word == 5 ? &l->events : word == 6 ? &l->shorts
-                         : word < 28 ? &cells[0][word - 7] : &cells[1][word - 28];
+                         : word < 7 + cell_count ? &cells[0][word - 7] : &cells[1][word - 7 - cell_count];
             const uint64_t now[14] = {*at, *at + 1, *at - 1, 0, 1, 2, *at + 256, *at + 65536, *at + (UINT64_C(1) << 32), *at + (UINT64_C(1) << 63), UINT64_MAX,
                                       UINT64_C(1) << 63, *at + 2, *at / 2};
             *at = now[change];
