@@ -23,8 +23,7 @@ use Rattle.desk_scan.specs.Desk.{emptyDesk}
 use Rattle.desk_rules.specs.Serve.{messageAnswer, mapServed, deskServed}
 use Rattle.desk_days.specs.Day.{State, Arrival, message, booked, bytesOf, after, afterAll}
 use Rattle.desk_days.specs.Story.{emptyDay, NothingOpen}
-use Rattle.desk_days.proofs.StepByStep.{refused-stays}
-use Rattle.desk_days.proofs.LateReply.{after-append}
+use Rattle.desk_days.proofs.AfterLaws.{refused-after, after-append}
 use Rattle.desk_sums.specs.Sums.{DayAdds}
 use Rattle.desk_sums.proofs.DayLaws.{day-adds}
 use Rattle.c_words.specs.Words.{wordsFit, ledgerIn}
@@ -57,7 +56,7 @@ all-refused : (st : State) (ss : List (List ℕ)) → unsound (st .ledger) (st .
 all-refused st [] u = refl
 all-refused st (s ∷ ss) u =
     let none : answerOf (st .ledger) (st .map) s ≡ 0 → ⊥ = λ z. omega (arith, z, answer-1 (st .ledger) (st .map) s u) in
-    ap (λ (t : State). afterAll t (map booked ss)) (refused-stays st (booked s) none) ∙ all-refused st ss u
+    ap (λ (t : State). afterAll t (map booked ss)) (refused-after st (booked s) none) ∙ all-refused st ss u
 
 module _ (ws m : List ℕ) (d : List Slot) (fit : wordsFit ws ≡ true) where
   abbrev mem : Memory
@@ -92,7 +91,7 @@ module _ (ws m : List ℕ) (d : List Slot) (fit : wordsFit ws ≡ true) where
       go (fails e) =
           let z : answerOf l m s ≡ 0 → ⊥ = eqb-false (answerOf l m s) 0 e in
           let r = take-refused-same headerWord ws m s (λ a. z (sym (take-answers s) ∙ a)) in
-          subst (Stands (afterCall mem (take s))) (sym (refused-stays (dayIn mem) (booked s) z))
+          subst (Stands (afterCall mem (take s))) (sym (refused-after (dayIn mem) (booked s) z))
           (stays mem (afterCall mem (take s)) fit (λ i. record { words = r .0 i; map = r .1 i; desk = d }))
 
   serve-stands : (s : List ℕ) → Stands (afterCall mem (serve s)) (after (dayIn mem) (message s))
@@ -109,7 +108,7 @@ module _ (ws m : List ℕ) (d : List Slot) (fit : wordsFit ws ≡ true) where
       go (fails e) =
           let z : messageAnswer l m d s ≡ 0 → ⊥ = eqb-false (messageAnswer l m d s) 0 e in
           let r = serve-refused-same headerWord ws m d s (λ a. z (sym (serve-answers s) ∙ a)) in
-          subst (Stands (afterCall mem (serve s))) (sym (refused-stays (dayIn mem) (message s) z))
+          subst (Stands (afterCall mem (serve s))) (sym (refused-after (dayIn mem) (message s) z))
           (stays mem (afterCall mem (serve s)) fit (λ i. record { words = r .0 i; map = r .1 i; desk = r .2 i }))
 
   -- a book that is not taken leaves all as it was

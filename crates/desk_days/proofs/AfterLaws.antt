@@ -2,7 +2,7 @@
 use Prim.Native.Nat.{ℕ}
 use mathlib.Core.Path.{_≡_, refl, sym, _∙_, ap, subst}
 use mathlib.Core.Logic.{_⊎_, inl, inr}
-use mathlib.Core.List.{List, [], _∷_, map}
+use mathlib.Core.List.{List, [], _∷_, _++_, map}
 use mathlib.Core.Bool.{true, false, not, cond}
 use lib.ListN.{set}
 use lib.Dec.{eqb}
@@ -29,7 +29,7 @@ use Rattle.desk_scan.specs.Desk.{placeOf, slotOf, numberIn}
 use Rattle.desk_rules.specs.Rules.{lookAt, stepIn}
 use Rattle.desk_rules.specs.Plan.{ledgerClosed}
 use Rattle.desk_rules.proofs.MessageLaws.{Opened, Stepped, Closed, opened, stepped, closed, accepted-kind, refused-same}
-use Rattle.desk_days.specs.Day.{State, Arrival, message, booked, answerTo, after, acceptedOf}
+use Rattle.desk_days.specs.Day.{State, Arrival, message, booked, answerTo, after, afterAll, acceptedOf}
 use Rattle.desk_days.specs.Story.{Deed, opens, steps, closes, takes, messageIn, deedOf}
 use Rattle.desk_days.specs.Late.{told}
 
@@ -41,6 +41,11 @@ refused-after st (message s) z =
 refused-after st (booked s) z =
     let same = refused-hands-back (st .ledger) (st .map) s z in
     λ i. record { ledger = same .0 i; map = same .1 i; desk = st .desk }
+
+-- arrivals, and others after them
+pub after-append : (st : State) (xs ys : List Arrival) → afterAll st (xs ++ ys) ≡ afterAll (afterAll st xs) ys
+after-append st [] ys = refl
+after-append st (x ∷ xs) ys = after-append (after st x) xs ys
 
 module _ (st : State) (s : List ℕ) where
   abbrev pub withOpened : State

@@ -28,7 +28,7 @@ use Rattle.desk_rules.proofs.MessageLaws.{closed}
 use Rattle.desk_days.specs.Day.{State, Arrival, message, booked, bytesOf, answerTo, after, afterAll, Sound, Marked}
 use Rattle.desk_days.specs.Story.{Deed, opens, steps, closes, names, about}
 use Rattle.desk_days.specs.Late.{told, usings, Replies, Begins, Refused, lateRules, againRules, TooLate}
-use Rattle.desk_days.proofs.AfterLaws.{IsOpened, IsStepped, IsClosed, withOpened, withStepped, withClosed, message-cases, entry-cases, refused-after, after-closed, telling-cases, entering-cases}
+use Rattle.desk_days.proofs.AfterLaws.{IsOpened, IsStepped, IsClosed, withOpened, withStepped, withClosed, message-cases, entry-cases, refused-after, after-append, after-closed, telling-cases, entering-cases}
 use Rattle.desk_days.proofs.SoundDay.{not-unsound, sound-not-1, place-within, slot-number, place-open, sound-stays-sound}
 use Rattle.desk_days.proofs.MarkedDay.{marks-stay, marked-at, marked-throughout}
 use Rattle.desk_days.proofs.OneOpen.{not-again}
@@ -269,10 +269,6 @@ pub closed-for-good :
 closed-for-good st k s kind a as′ =
     let g = closed-gone st k s (closed (st .ledger) (st .map) (st .desk) s a kind) in
     (nothing-told (numberIn s) (after st (message s)) g as′, not-again (after st (message s)) as′ (numberIn s) (g .used))
-
-pub after-append : (st : State) (xs ys : List Arrival) → afterAll st (xs ++ ys) ≡ afterAll (afterAll st xs) ys
-after-append st [] ys = refl
-after-append st (x ∷ xs) ys = after-append (after st x) xs ys
 
 -- The same in a day that began sound, with every open number marked.
 pub late-reply-in-a-day :

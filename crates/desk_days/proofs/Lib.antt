@@ -1,4 +1,5 @@
 pub mod EncodeLaws
+pub mod AfterLaws
 pub mod StoryLaws
 pub mod OpenMarks
 pub mod EntryLaws
@@ -6,7 +7,6 @@ pub mod HoldLaws
 pub mod Kept
 pub mod StepByStep
 pub mod SlotLaws
-pub mod AfterLaws
 pub mod SoundDay
 pub mod MarkedDay
 pub mod OneOpen

@@ -5,13 +5,12 @@ use mathlib.Core.List.{List, [], _∷_}
 use mathlib.Core.Bool.{true}
 use lib.ListN.{length, getD, set, replicate}
 use lib.Dec.{eqb}
-use native.Mathlib.Decide.{ℕ-discrete}
 use borrow.Author.Tests.{eqb-true, eqb-false}
 use Rattle.base.specs.Lists.{All, Bytes}
 use Rattle.base.proofs.TestLaws.{Tested, holds, fails, test}
 use Rattle.wire.proofs.ByteLaws.{le16-below}
 use Rattle.used_numbers.specs.Marks.{marked, markedWith, mapSize}
-use Rattle.used_numbers.proofs.MarkLaws.{markedWith-again, markedWith-other, markedWith-same}
+use Rattle.used_numbers.proofs.MarkLaws.{markedWith-same}
 use Rattle.fields.specs.Fields.{headIn}
 use Rattle.ledger.specs.declared.Ledger.{Ledger}
 use Rattle.ledger.specs.Sound.{soundLedger}
@@ -24,25 +23,18 @@ use Rattle.desk_scan.proofs.SearchLaws.{empty-sound}
 use Rattle.desk_rules.specs.Rules.{stepIn}
 use Rattle.desk_days.specs.Day.{State, Arrival, message, booked, bytesOf, after, afterAll, Sound, Marked}
 use Rattle.desk_days.specs.Story.{emptyDay}
+use Rattle.desk_days.proofs.OpenMarks.{still-marked}
 use Rattle.desk_days.proofs.AfterLaws.{IsOpened, IsStepped, IsClosed, withOpened, withStepped, withClosed, message-cases}
 use Rattle.desk_days.proofs.SoundDay.{sound-stays-sound, sound-throughout}
 
--- a marked number stays marked, whatever is marked after it
-pub marked-stays : (m : List ℕ) (v w : ℕ) → marked m v ≡ true → marked (markedWith m w) v ≡ true
-marked-stays m v w e = go (ℕ-discrete w v)
-  where
-    go : Dec (w ≡ v) → marked (markedWith m w) v ≡ true
-    go (yes p) = ap (λ n. marked n v) (markedWith-again m w (ap (marked m) p ∙ e)) ∙ e
-    go (no p) = markedWith-other m w v p ∙ e
-
--- so it does after an arrival, and after any sequence of them
+-- a marked number stays marked after an arrival, and after any sequence of them
 pub marks-stay : (st : State) (a : Arrival) (v : ℕ) → marked (st .map) v ≡ true → marked (after st a .map) v ≡ true
 marks-stay st (message s) v e =
-    message-cases st s (λ t. marked (t .map) v ≡ true) (λ _. e) (λ _ _ _. marked-stays (st .map) v (numberIn s) e) (λ _ _ _. e) (λ _ _ _. e)
+    message-cases st s (λ t. marked (t .map) v ≡ true) (λ _. e) (λ _ _ _. still-marked (st .map) (numberIn s) v e) (λ _ _ _. e) (λ _ _ _. e)
 marks-stay st (booked s) v e = go (test (eqb (answerOf (st .ledger) (st .map) s) 0))
   where
     go : Tested (eqb (answerOf (st .ledger) (st .map) s) 0) → marked (after st (booked s) .map) v ≡ true
-    go (holds a) = ap (λ m. marked m v) (accepted-adds (st .ledger) (st .map) s (eqb-true _ _ a) .1) ∙ marked-stays (st .map) v _ e
+    go (holds a) = ap (λ m. marked m v) (accepted-adds (st .ledger) (st .map) s (eqb-true _ _ a) .1) ∙ still-marked (st .map) _ v e
     go (fails a) = ap (λ m. marked m v) (refused-hands-back (st .ledger) (st .map) s (eqb-false _ _ a) .1) ∙ e
 
 pub marks-stay-throughout : (st : State) (as′ : List Arrival) (v : ℕ) → marked (st .map) v ≡ true → marked (afterAll st as′ .map) v ≡ true
@@ -77,7 +69,7 @@ marks-kept st sound k (message s) b = message-cases st s Marked (λ _. k) (λ _ 
     opens : IsOpened st s → Marked (withOpened st s)
     opens o =
         marked-set (markedWith (st .map) (numberIn s)) (st .desk) (placeOf 0 (st .desk)) (openedBy (headIn s))
-        (marked-more (st .map) (markedWith (st .map) (numberIn s)) (st .desk) (λ v. marked-stays (st .map) v (numberIn s)) k)
+        (marked-more (st .map) (markedWith (st .map) (numberIn s)) (st .desk) (still-marked (st .map) (numberIn s)) k)
         (markedWith-same (st .map) (numberIn s) (sound .map) (le16-below s b 4))
 
     steps : IsStepped st s → Marked (withStepped st s)

@@ -2,7 +2,7 @@
 -- but for the outages that are open, its map. What holds all day long holds at the end. Assumes nothing.
 use Prim.Native.Nat.{ℕ, zero, suc, _≤_}
 use mathlib.Core.Path.{_≡_, refl, ap, _∙_, sym, subst}
-use mathlib.Core.Logic.{_≢_, _⊎_, inl, inr}
+use mathlib.Core.Logic.{_⊎_, inl, inr}
 use mathlib.Core.List.{List, [], _∷_, _++_, map, append-nil, append-assoc}
 use mathlib.Core.Bool.{Bool, true, false, not, cond}
 use lib.ListN.{length, getD, replicate}
@@ -22,7 +22,6 @@ use Rattle.codec.proofs.EncodeLaws.{head-in-bytes, step-in-bytes}
 use Rattle.codec.proofs.DecodeLaws.{stepped-bytes, stepped-framed}
 use Rattle.ledger.specs.declared.Ledger.{Ledger}
 use Rattle.ledger.specs.Sound.{soundLedger}
-use Rattle.ledger.proofs.TakeLaws.{refused-hands-back}
 use Rattle.book.specs.Book as book
 use Rattle.records.specs.Records.{isBroken}
 use Rattle.book.specs.Book.{starting, takeAll, afterBook}
@@ -32,12 +31,13 @@ use Rattle.desk_scan.specs.Desk.{slotCount, emptyDesk, numberAt, numbersOf, num
 use Rattle.desk_scan.proofs.SearchLaws.{desk-differ}
 use Rattle.desk_rules.specs.Rules.{stepIn}
 use Rattle.desk_rules.specs.Serve.{messageAnswer}
-use Rattle.desk_rules.proofs.MessageLaws.{Opened, Stepped, Closed, opened, stepped, closed, refused-same, accepted-kind}
+use Rattle.desk_rules.proofs.MessageLaws.{Opened, Stepped, Closed, opened, stepped, closed, accepted-kind}
 use Rattle.desk_days.specs.Day.{State, Arrival, message, booked, bytesOf, answerTo, after, afterAll, acceptedOf}
 use Rattle.desk_days.specs.Story.{Deed, opens, steps, closes, takes, messageIn, deedOf, steppedEventIn, eventFor, about, openDeeds, openings, closings, recordOf, closedRecords, completeIn, completeRecords, markedAll, emptyDay, NothingOpen, Once, headFor, stepsFor}
 use Rattle.desk_days.proofs.EncodeLaws.{Passed, read-back}
 use Rattle.desk_days.proofs.StoryLaws.{all-map, all-of-map}
 use Rattle.desk_days.proofs.OpenMarks.{all-none}
+use Rattle.desk_days.proofs.AfterLaws.{refused-after}
 use Rattle.desk_days.proofs.Kept.{at, ToldOf, Kept, open-next, step-next, close-next, entry-next}
 
 module _ (l₀ : Ledger) (m₀ : List ℕ) where
@@ -100,16 +100,7 @@ module _ (l₀ : Ledger) (m₀ : List ℕ) where
   accepted-keeps ds st k (message s) b e = message-keeps ds st k s b e
   accepted-keeps ds st k (booked s) b e = entry-next l₀ m₀ ds st k s e
 
--- a refused arrival changes nothing
-pub refused-stays : (st : State) (a : Arrival) → answerTo st a ≢ 0 → after st a ≡ st
-refused-stays st (message s) z =
-    let r = refused-same (st .ledger) (st .map) (st .desk) s z in
-    λ i. record { ledger = r .0 i; map = r .1 i; desk = r .2 i }
-refused-stays st (booked s) z =
-    let r = refused-hands-back (st .ledger) (st .map) s z in
-    λ i. record { ledger = r .0 i; map = r .1 i; desk = st .desk }
-
--- so it holds after any arrivals
+-- a refused arrival changes nothing, so it holds after any arrivals
 module _ (l₀ : Ledger) (m₀ : List ℕ) where
   all-kept :
       (ds : List Deed) (st : State) (as′ : List Arrival) →
@@ -127,7 +118,7 @@ module _ (l₀ : Ledger) (m₀ : List ℕ) where
       go true e f =
           subst (λ x. Kept l₀ m₀ x (afterAll (after st a) as′)) (append-assoc ds (deedOf a ∷ []) (map deedOf (acceptedOf (after st a) as′)))
           (f (ds ++ deedOf a ∷ []) (accepted-keeps l₀ m₀ ds st k a (b .0) (eqb-true _ _ e)))
-      go false e f = f ds (subst (Kept l₀ m₀ ds) (sym (refused-stays st a (eqb-false _ _ e))) k)
+      go false e f = f ds (subst (Kept l₀ m₀ ds) (sym (refused-after st a (eqb-false _ _ e))) k)
 
 -- the start: an empty desk
 empty-at : (n i : ℕ) → getD (replicate n freeSlot) i freeSlot ≡ freeSlot

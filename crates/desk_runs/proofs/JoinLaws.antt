@@ -15,9 +15,9 @@ use Rattle.book.specs.Book.{starting, takeAll}
 use Rattle.slot.specs.Slot.{freeSlot}
 use Rattle.desk_days.specs.Day.{State, Arrival, bytesOf, answerTo, after, afterAll, acceptedOf}
 use Rattle.desk_days.specs.Story.{Deed, opens, steps, closes, takes, deedOf, SteppedEvent, eventFor, closings, names, about, openDeeds, recordOf, completeIn, emptyDay, NothingOpen}
+use Rattle.desk_days.proofs.AfterLaws.{after-append}
 use Rattle.desk_days.proofs.StepByStep.{slots-reused, day-in-records, in-order}
 use Rattle.desk_runs.specs.Runs.{Builds}
-use Rattle.desk_runs.proofs.LeadLaws.{after-append}
 
 -- ---- lists of deeds that are put together
 

@@ -7,13 +7,10 @@ use Rattle.base.specs.Lists.{All}
 use Rattle.base.proofs.ListLaws.{all-append}
 use Rattle.desk_days.specs.Day.{State, Arrival, answerTo, after, afterAll, acceptedOf}
 use Rattle.desk_days.specs.Late.{answersTo}
+use Rattle.desk_days.proofs.AfterLaws.{after-append}
 use Rattle.desk_runs.specs.Runs.{Leads}
 
 -- ---- lists that are put together
-
-pub after-append : (st : State) (xs ys : List Arrival) → afterAll st (xs ++ ys) ≡ afterAll (afterAll st xs) ys
-after-append st [] ys = refl
-after-append st (a ∷ xs) ys = after-append (after st a) xs ys
 
 pub answers-append : (st : State) (xs ys : List Arrival) → answersTo st (xs ++ ys) ≡ answersTo st xs ++ answersTo (afterAll st xs) ys
 answers-append st [] ys = refl
