@@ -38,10 +38,11 @@ use Rattle.ledger.proofs.TakeLaws.{answer-judged, accepted-verdict, accepted-ad
 use Rattle.ledger.proofs.SoundLaws.{sound-stays-sound}
 use Rattle.book.specs.Book.{BookState, takeRecord, takeAll}
 use Rattle.book.proofs.RunLaws.{sound-taken, refusedIn, answerIn, refused-counted}
-use Rattle.law_sums.specs.Accepted.{acceptedEvents, shortOnes, sumOf, numberIn, withNumber, allMarked}
+use Rattle.law_sums.specs.Accepted.{eventAt, acceptedEvents, shortOnes, sumOf, numberIn, withNumber, allMarked}
 use Rattle.law_sums.specs.Theorem.{Adds}
+use Rattle.law_sums.proofs.StateLaws.{event-verdict}
 use Rattle.law_sums.proofs.AnnexTheorem.{adds-exactly}
-use Rattle.law_order.specs.Each.{Right, Apart, Unmarked, Each, eventAt, withEvent, withAll}
+use Rattle.law_order.specs.Each.{Right, Apart, Unmarked, Each, withEvent, withAll}
 
 -- the rules of a record: those of its bytes and the sheet, that of the map and that of the number of events
 module _ (s : List ℕ) (sheet : Sheet) (m : List ℕ) (events : ℕ) where
@@ -102,11 +103,7 @@ module _ (sheet : Sheet) (s : List ℕ) (there : sheet .there ≡ true) (right :
 
   -- and its verdict is that of its event
   pub right-verdict : acceptedAt (kindOf s) s sheet ≡ eventAt sheet s
-  right-verdict = go right-kind
-    where
-      go : (kindOf s ≡ 2) ⊎ (kindOf s ≡ 3) → acceptedAt (kindOf s) s sheet ≡ eventAt sheet s
-      go (inl e) = rw e
-      go (inr e) = rw e
+  right-verdict = event-verdict s sheet right-not-sheet
 
 -- a number is still unmarked, once another is marked, exactly where it was and the two are apart
 module _ (m : List ℕ) (v w : ℕ) (size : length m ≡ 8192) (some : v ≢ 0) where

@@ -12,9 +12,9 @@ use Rattle.verdict.specs.Verdict.{eventVerdict}
 use Rattle.ledger.specs.declared.Ledger.{Ledger}
 use Rattle.ledger.specs.Ledger.{emptyLedger}
 use Rattle.book.specs.Book.{BookState, starting, takeAll}
-use Rattle.law_sums.specs.Accepted.{zeroMap, Accepted, numberIn, withNumber, allMarked}
+use Rattle.law_sums.specs.Accepted.{zeroMap, Accepted, eventAt, numberIn, withNumber, allMarked}
 use Rattle.base.specs.Perm.{Perm, done, keep, swap, then}
-use Rattle.law_order.specs.Each.{Right, Apart, Different, Unmarked, Each, eventAt, withEvent, withAll, onlySheet, Told}
+use Rattle.law_order.specs.Each.{Right, Apart, Different, Unmarked, Each, withEvent, withAll, onlySheet, Told}
 use Rattle.law_order.specs.Reorder.{Reordered, none, after, end, SameEnd}
 use Rattle.base.proofs.PermLaws.{perm-length, perm-all, perm-map, fold-perm}
 use Rattle.law_order.proofs.AddedLaws.{added-comm}

@@ -9,16 +9,13 @@ use lib.ListN.{length}
 use Rattle.base.specs.Lists.{All}
 use Rattle.wire.specs.Frame.{kindOf}
 use Rattle.codes.specs.Ranges.{mostEvents}
-use Rattle.annex.specs.Annex.{endOf, figuresOf}
 use Rattle.used_numbers.specs.Marks.{marked}
 use Rattle.fields.specs.declared.Sheet.{Sheet}
-use Rattle.fields.specs.Fields.{sheetIn, headIn}
-use Rattle.verdict.specs.declared.Verdict.{Verdict}
-use Rattle.verdict.specs.Verdict.{eventVerdict}
+use Rattle.fields.specs.Fields.{sheetIn}
 use Rattle.record.specs.Rules.{unframed, kindNotTaken, lengthWrong, sheetMissingOrSecond, sheetOutOfRange, notListed, timeWrong, countTooLarge, countTooHigh, someAfterNone}
 use Rattle.ledger.specs.declared.Ledger.{Ledger}
 use Rattle.ledger.specs.Ledger.{emptyLedger, added}
-use Rattle.law_sums.specs.Accepted.{zeroMap, eventIn, numberIn}
+use Rattle.law_sums.specs.Accepted.{zeroMap, eventAt, numberIn}
 
 -- right by itself under a sheet: none of the rules 2 to 13 applies
 pub record Right (sheet : Sheet) (s : List ℕ) : Type 0 where
@@ -52,10 +49,7 @@ pub record Each (sheet : Sheet) (m : List ℕ) (events : ℕ) (ss : List (List �
   pub different : Different (map numberIn ss)
   pub room : events + length ss ≤ mostEvents
 
--- what the event of a record adds
-abbrev pub eventAt : Sheet → List ℕ → Verdict
-eventAt sheet s = eventVerdict sheet (headIn s) (endOf (eventIn s)) (figuresOf (eventIn s))
-
+-- the event of a record added
 abbrev pub withEvent : Sheet → Ledger → List ℕ → Ledger
 withEvent sheet l s = added l (eventAt sheet s)
 

@@ -32,10 +32,10 @@ use Rattle.ledger.specs.Take.{answerOf, ledgerAfter}
 use Rattle.ledger.proofs.CellLaws.{added-sheet, added-held, empty-shaped}
 use Rattle.ledger.proofs.TakeLaws.{accepted-verdict, accepted-adds, refused-hands-back, shape-kept}
 use Rattle.book.specs.Book.{BookState, starting, takeRecord, takeAll}
-use Rattle.law_sums.specs.Accepted.{zeroMap, Accepted, eventIn, rowIn, acceptedOf, isSheet, acceptedEvents, acceptedSheets, shortOnes, sumOf, numbersOf, allMarked, sheetBy}
+use Rattle.law_sums.specs.Accepted.{zeroMap, Accepted, eventIn, rowIn, eventAt, acceptedOf, isSheet, acceptedEvents, acceptedSheets, shortOnes, sumOf, numbersOf, allMarked, sheetBy}
 use Rattle.law_sums.specs.Theorem.{refusedOnes, Adds, eventsOf, sheetsOf, IsSum}
 use Rattle.law_sums.proofs.NobodyLaws.{events-nobody, sums-nobody}
-use Rattle.law_sums.proofs.StateLaws.{eventOf, event-verdict, accepted-listed, records-mark, records-marked, records-sheet, zero-unmarked}
+use Rattle.law_sums.proofs.StateLaws.{event-verdict, accepted-listed, records-mark, records-marked, records-sheet, zero-unmarked}
 use Rattle.base.proofs.SumLaws.{sum-kept, sum-of-ones, count-kept}
 
 -- the ledger with a sheet put in
@@ -50,7 +50,7 @@ module _
     (value : Ledger → ℕ)
     (counts : List ℕ → ℕ)
     (by-sheet : (l : Ledger) (next : Sheet) → value (withSheet l next) ≡ value l)
-    (by-event : (l : Ledger) (s : List ℕ) → Shaped l → rowIn s < rows → value (added l (eventOf (l .sheet) s)) ≡ value l + counts s)
+    (by-event : (l : Ledger) (s : List ℕ) → Shaped l → rowIn s < rows → value (added l (eventAt (l .sheet) s)) ≡ value l + counts s)
   where
     by-record :
         (l : Ledger) (m s : List ℕ) →
@@ -112,7 +112,7 @@ countsIn row s = eqb (rowIn s) row && not (shortEvent (eventIn s))
 
 module _ (l : Ledger) (s : List ℕ) where
   abbrev after : Ledger
-  after = added l (eventOf (l .sheet) s)
+  after = added l (eventAt (l .sheet) s)
 
   abbrev shown : Bool → Figures
   shown short = cond short nothing (figuresOf (eventIn s))
@@ -136,7 +136,7 @@ module _ (l : Ledger) (s : List ℕ) where
       Shaped l → rowIn s < rows → (x : Figure) (row h : ℕ) → h < levels → heldIn x after row h ≡ heldIn x l row h + cond (countsIn row s) (given x h (eventIn s)) 0
   unfolding eventVerdict
   event-cell n b x row h c =
-      added-held l (eventOf (l .sheet) s) n b x row h c ∙
+      added-held l (eventAt (l .sheet) s) n b x row h c ∙
       ap (λ y. heldIn x l row h + y) (if-counted (λ f. figureAt x f h) (given x h (eventIn s)) (nothing-gives x h c) (figures-given x (eventIn s) h c) row)
 
   event-counted : after .events ≡ l .events + 1

@@ -12,7 +12,6 @@ use borrow.Author.Tests.{eqb-true, eqb-false, not-false, not-true}
 use Rattle.base.specs.Lists.{listed}
 use Rattle.base.proofs.TestLaws.{Tested, holds, fails, test, and-left, or-left}
 use Rattle.wire.specs.Frame.{kindOf}
-use Rattle.annex.specs.Annex.{endOf, figuresOf}
 use Rattle.used_numbers.specs.Marks.{mapSize, bitOf, marked, markedWith}
 use Rattle.used_numbers.proofs.MarkLaws.{markedWith-same, markedWith-other}
 use Rattle.fields.specs.declared.Sheet.{Sheet}
@@ -29,17 +28,13 @@ use Rattle.ledger.specs.Take.{answerOf, ledgerAfter, mapAfter}
 use Rattle.ledger.proofs.TakeLaws.{accepted-sound, accepted-verdict, accepted-adds, refused-hands-back, sheet-leaves-map}
 use Rattle.ledger.proofs.ExactlyThen.{accepted-rules}
 use Rattle.book.specs.Book.{BookState, takeRecord, takeAll}
-use Rattle.law_sums.specs.Accepted.{zeroMap, eventIn, numberIn, numbersOf, withNumber, allMarked, acceptedEvents, acceptedSheets, sheetBy}
-
--- the verdict on the event that a record tells
-abbrev pub eventOf : Sheet → List ℕ → Verdict
-eventOf sheet s = eventVerdict sheet (headIn s) (endOf (eventIn s)) (figuresOf (eventIn s))
+use Rattle.law_sums.specs.Accepted.{zeroMap, eventAt, numberIn, numbersOf, withNumber, allMarked, acceptedEvents, acceptedSheets, sheetBy}
 
 -- a record that is no sheet adds, where it is accepted, the verdict on the event that it tells
-pub event-verdict : (s : List ℕ) (sheet : Sheet) → eqb (kindOf s) 1 ≡ false → acceptedAt (kindOf s) s sheet ≡ eventOf sheet s
+pub event-verdict : (s : List ℕ) (sheet : Sheet) → eqb (kindOf s) 1 ≡ false → acceptedAt (kindOf s) s sheet ≡ eventAt sheet s
 event-verdict s sheet k = go (test (eqb (kindOf s) 2))
   where
-    go : Tested (eqb (kindOf s) 2) → acceptedAt (kindOf s) s sheet ≡ eventOf sheet s
+    go : Tested (eqb (kindOf s) 2) → acceptedAt (kindOf s) s sheet ≡ eventAt sheet s
     go (holds e) = rw (k, e)
     go (fails e) = rw (k, e)
 

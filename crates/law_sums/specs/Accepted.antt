@@ -10,11 +10,13 @@ use lib.Dec.{eqb}
 use Rattle.base.specs.Lists.{sum, keep}
 use Rattle.wire.specs.Frame.{kindOf}
 use Rattle.codes.specs.Codes.{rowOf}
-use Rattle.annex.specs.Annex.{Event, simple, stepped, shortEvent}
+use Rattle.annex.specs.Annex.{Event, simple, stepped, shortEvent, endOf, figuresOf}
 use Rattle.annex.specs.Figure.{Figure, given}
 use Rattle.used_numbers.specs.Marks.{mapSize, markedWith}
 use Rattle.fields.specs.declared.Sheet.{Sheet}
 use Rattle.fields.specs.Fields.{sheetIn, headIn, simpleIn, stepsIn}
+use Rattle.verdict.specs.declared.Verdict.{Verdict}
+use Rattle.verdict.specs.Verdict.{eventVerdict}
 use Rattle.ledger.specs.Ledger.{emptyLedger}
 use Rattle.ledger.specs.Take.{answerOf}
 use Rattle.records.specs.Records.{isBroken}
@@ -34,6 +36,10 @@ eventIn s = cond (eqb (kindOf s) 2) (simple (simpleIn s)) (stepped (headIn s .t0
 -- the ledger's row of its type
 abbrev pub rowIn : List ℕ → ℕ
 rowIn s = rowOf (headIn s .typ)
+
+-- what the event of a record adds, under a sheet
+abbrev pub eventAt : Sheet → List ℕ → Verdict
+eventAt sheet s = eventVerdict sheet (headIn s) (endOf (eventIn s)) (figuresOf (eventIn s))
 
 -- the accepted records that pass a test, among those taken from a state on: the events, and the sheets
 abbrev pub acceptedOf : (List ℕ → Bool) → BookState → List (List ℕ) → List (List ℕ)
