@@ -14,7 +14,7 @@ use Rattle.pack.specs.Pack.{packedAs, packedOf}
 use Rattle.base.specs.Lists.{Bytes}
 use Rattle.text_back.specs.Mirror.{lineBytes}
 use Rattle.text_back.proofs.LineBack.{line-back}
-use Rattle.text_back.proofs.RecordBack.{Expressed, sheet, simple, stepped, expressed, record-back, record-whole, record-within, hex-back, hex-whole, hex-within}
+use Rattle.text_back.proofs.RecordBack.{Expressed, sheet, simple, stepped, expressed, record-back, record-whole, record-within, bytes-back, hex-whole, hex-within}
 
 -- an entry's line is that of its numbers, and its bytes are theirs where it is whole
 numbers-again : (kind : ℕ) (vs : List ℕ) → take (length vs) (entryOf kind vs .values) ≡ vs
@@ -57,4 +57,4 @@ pub bytes-read-back : (s : List ℕ) (year : ℕ) → Bytes s → 1 ≤ length s
 unfolding bytesEntry
 bytes-read-back s year b some few =
     ap (λ (l : List ℕ). lineBytes (lineOf (entryOf 4 l) year) year) (take-all 32 s few) ∙
-    entry-back 4 year s (omega arith) (omega arith) (hex-whole s some few) (hex-within s b) ∙ hex-back s b
+    entry-back 4 year s (omega arith) (omega arith) (hex-whole s some few) (hex-within s b) ∙ bytes-back s b

@@ -1,17 +1,18 @@
 -- A line that is written is read back: its word names its sort, and each item stands after its gap, parted from the next. Assumes nothing.
-use Prim.Native.Nat.{ℕ, zero, suc, _+_, _-_, _%_, _<_, _≤_}
+use Prim.Native.Nat.{ℕ, zero, suc, _+_, _<_, _≤_}
 use mathlib.Core.Path.{_≡_, refl, ap, _∙_}
-use mathlib.Core.Bool.{Bool, true, false, cond, false≢true}
+use mathlib.Core.Bool.{Bool, true, false, cond}
 use mathlib.Core.List.{List, [], _∷_, _++_}
 use lib.ListN.{length, drop}
 use lib.Seq.{drop-append-seam, drop-append-add}
-use lib.Dec.{eqb, ltb, leb}
+use lib.Dec.{leb}
 use native.Mathlib.Omega.{arith}
 use native.Mathlib.Nat.{zero-add}
-use borrow.Author.Tests.{ltb-false, leb-true, eqb-true, lt-leb, ne-eqb}
+use borrow.Author.Tests.{leb-true, lt-leb, ne-eqb}
 use Rattle.base.proofs.TestLaws.{and-left, and-right}
 use Rattle.wire.specs.Numbers.{byteAt}
 use Rattle.text_items.specs.Shape.{itemOf, mostOf, wholeOf, barBefore, entryOf, limitOf, withinFrom}
+use Rattle.text_items.proofs.ShapeLaws.{most-small, whole-sheet, whole-simple, whole-stepped, whole-bytes}
 use Rattle.text_scan.specs.Scan.{isGap, saidAt, gapsIn, endsHere, partedHere}
 use Rattle.text_parse.specs.declared.Parsed.{Parsed}
 use Rattle.text_parse.specs.Entry.{isWord, wordText, wordAs, wordOf, partedItem, nextField, gapBefore, nextCell, valuesFrom, endFrom, endedBy, gathered, parsedOf}
@@ -20,30 +21,14 @@ use Rattle.text_back.proofs.Written.{line-celless}
 use Rattle.text_back.proofs.ItemBack.{item-front, item-begins, item-back}
 
 -- a line of a sort has no more items than the sort takes
-unless : (t b : Bool) → cond t false b ≡ true → (t ≡ false) × (b ≡ true)
-unless true b e = absurd (false≢true e)
-unless false b e = (refl, e)
-
 pub whole-most : (kind count : ℕ) → 1 ≤ kind → kind ≤ 4 → wholeOf kind count ≡ true → count ≤ mostOf kind
-unfolding wholeOf mostOf
-whole-most zero count l h w = absurd (omega arith)
-whole-most (suc zero) count l h w = omega (arith, eqb-true count 4 (unless (eqb count 0) (eqb count 4) w .1))
-whole-most (suc (suc zero)) count l h w = omega (arith, eqb-true count 15 (unless (eqb count 0) (eqb count 15) w .1))
-whole-most (suc (suc (suc zero))) count l h w =
-    let a = unless (ltb count 9) (cond (ltb 261 count) false (eqb ((count - 5) % 4) 0)) w in
-    ltb-false 261 count (unless (ltb 261 count) (eqb ((count - 5) % 4) 0) (a .1) .0)
-whole-most (suc (suc (suc (suc zero)))) count l h w = leb-true count 32 (unless (eqb count 0) (leb count 32) w .1)
-whole-most (suc (suc (suc (suc (suc kind))))) count l h w = absurd (omega arith)
-
--- and none of the four sorts takes more than 261
-pub most-most : (kind : ℕ) → 1 ≤ kind → kind ≤ 4 → mostOf kind ≤ 261
 unfolding mostOf
-most-most zero l h = absurd (omega arith)
-most-most (suc zero) l h = omega arith
-most-most (suc (suc zero)) l h = omega arith
-most-most (suc (suc (suc zero))) l h = omega arith
-most-most (suc (suc (suc (suc zero)))) l h = omega arith
-most-most (suc (suc (suc (suc (suc kind))))) l h = absurd (omega arith)
+whole-most zero count l h w = absurd (omega arith)
+whole-most (suc zero) count l h w = omega (arith, whole-sheet count w)
+whole-most (suc (suc zero)) count l h w = omega (arith, whole-simple count w)
+whole-most (suc (suc (suc zero))) count l h w = whole-stepped count w .1
+whole-most (suc (suc (suc (suc zero)))) count l h w = whole-bytes count w .1
+whole-most (suc (suc (suc (suc (suc kind))))) count l h w = absurd (omega arith)
 
 -- what parts an item from those before it is gaps alone
 pub gap-gaps : (kind k : ℕ) (t : List ℕ) → gapsIn t ≡ 0 → gapsIn (gapText kind k ++ t) ≡ length (gapText kind k)
@@ -215,7 +200,7 @@ pub gathered-back :
 unfolding gathered endedBy
 gathered-back kind year vs l h whole within =
     let a : length vs ≤ mostOf kind = whole-most kind (length vs) l h whole in
-    let b : mostOf kind ≤ 261 = most-most kind l h in
+    let b : mostOf kind ≤ 261 = most-small kind in
     let items = itemsText kind year 0 vs in
     rw (
       drop-append-seam (wordText kind) items,

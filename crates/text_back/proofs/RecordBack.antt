@@ -21,6 +21,7 @@ use Rattle.codec.proofs.EncodeLaws.{foursFrom, fours-length, sheet-again, simpl
 use Rattle.text_items.specs.Shape.{eventItem, itemOf, mostOf, wholeOf, limitOf, withinFrom}
 use Rattle.pack.specs.Pack.{oneEach, sheetBytes, simpleBytes, stepsOf, steppedBytes, packedAs}
 use Rattle.unpack.specs.Unpack.{kindIn, countIn, valueIn, valuesRun, valuesIn}
+use Rattle.unpack.proofs.UnpackLaws.{run-long}
 use Rattle.base.specs.Lists.{Bytes}
 
 -- the records that a line expresses: their sort, and what holds of each
@@ -68,11 +69,6 @@ module _ (s : List ℕ) (some : eqb (kindIn s) 0 ≡ false) where
       go (fails e) (holds k) g l (fails m) = absurd (true≢false (rw (frame-of, e, k, m) at some))
       go (fails e) (fails f) (holds k) l m = stepped-of e f k
       go (fails e) (fails f) (fails k) l m = absurd (true≢false (rw (frame-of, e, f, k) at some))
-
--- so many numbers from one on are so many
-pub run-length : (n : ℕ) (s : List ℕ) (kind k : ℕ) → length (valuesRun n s kind k) ≡ n
-run-length zero s kind k = refl
-run-length (suc n) s kind k = ap suc (run-length n s kind (k + 1))
 
 -- a stepped event's numbers after T0 stand in 4 bytes each, one after the other
 module _ (s : List ℕ) where
@@ -149,7 +145,7 @@ module _ (s : List ℕ) where
 
   -- a line of its sort is whole with as many numbers as it has
   pub record-whole : eqb (kindIn s) 0 ≡ false → wholeOf (kindIn s) (length (valuesIn s)) ≡ true
-  record-whole some = ap (wholeOf (kindIn s)) (run-length (countIn s (kindIn s)) s (kindIn s) 0) ∙ whole-of-count (expressed s some)
+  record-whole some = ap (wholeOf (kindIn s)) (run-long (countIn s (kindIn s)) s (kindIn s) 0) ∙ whole-of-count (expressed s some)
 
 -- a time and a count take every number of 4 bytes
 within-four : (time : Bool) (v : ℕ) → v < 4294967296 → v ≤ limitOf (cond time 4 3)
@@ -201,9 +197,9 @@ ones-again (x ∷ s) b =
     λ i. e i ∷ ones-again s (b .1) i
 
 -- bytes, as the numbers of a line of bytes, stand for themselves
-pub hex-back : (s : List ℕ) → Bytes s → packedAs 4 s ≡ s
+pub bytes-back : (s : List ℕ) → Bytes s → packedAs 4 s ≡ s
 unfolding packedAs
-hex-back s b = ones-again s b
+bytes-back s b = ones-again s b
 
 -- 1 to 32 bytes make a whole line, and each is within what its item takes
 pub hex-whole : (s : List ℕ) → 1 ≤ length s → length s ≤ 32 → wholeOf 4 (length s) ≡ true

@@ -26,7 +26,7 @@ use Rattle.pack.specs.Pack.{packedOf}
 use Rattle.text_back.specs.Mirror.{lineBytes}
 use Rattle.text_back.specs.Text.{bytesLinesIn, bytesLines, recordLines, bookLines, bookText, yearOn, writtenFrom, written, rightFrom, right, silent, spoken}
 use Rattle.text_back.proofs.LineBack.{word-gapless, word-goes-on, line-back}
-use Rattle.text_back.proofs.RecordBack.{expressed, record-whole, record-within, hex-back, hex-whole, hex-within}
+use Rattle.text_back.proofs.RecordBack.{expressed, record-whole, record-within, bytes-back, hex-whole, hex-within}
 use Rattle.text_back.proofs.BookBack.{line-of-numbers, entry-back, sort-of, record-read-back}
 
 -- lines stand for bytes, with the year before them and the year after them, whatever lines follow; and none of them is refused
@@ -79,7 +79,7 @@ hex-stands year vs b some few =
     rw (hex-line year vs)
     (line-stands year year l vs
     (line-taken 4 year vs (omega arith) (omega arith) w n)
-    (entry-back 4 year vs (omega arith) (omega arith) w n ∙ hex-back vs b)
+    (entry-back 4 year vs (omega arith) (omega arith) w n ∙ bytes-back vs b)
     (rw sort))
 
 -- the bytes in front and those after them

@@ -180,11 +180,12 @@ count-few s kind e = go (test (eqb kind 3))
         let few : mostOf kind ≤ 261 = most-small kind in
         omega arith
 
--- one number more of a record
-run-long : (n : ℕ) (s : List ℕ) (kind k : ℕ) → length (valuesRun n s kind k) ≡ n
+-- so many numbers from one on are so many
+pub run-long : (n : ℕ) (s : List ℕ) (kind k : ℕ) → length (valuesRun n s kind k) ≡ n
 run-long zero s kind k = refl
 run-long (suc n) s kind k = ap suc (run-long n s kind (k + 1))
 
+-- one number more of a record
 run-ends : (n : ℕ) (s : List ℕ) (kind k : ℕ) → valuesRun (n + 1) s kind k ≡ valuesRun n s kind k ++ (valueIn s kind (k + n) ∷ [])
 run-ends zero s kind k = let e : k ≡ k + 0 = omega arith in λ i. valueIn s kind (e i) ∷ []
 run-ends (suc n) s kind k =
