@@ -41,12 +41,11 @@ module _ (f : Feed) (m b : List ℕ) (filled : ℕ) (u : fedAnswer f m b filled 
       coe 0 1 (i. Holding takeRecord (readingOf (e .0 i .feed) (e .1 i)) (e .2 i) (fed takeRecord p (drop (f .held) (take filled b))))
       (held-on takeRecord (readingOf f m) b filled p h within (buffer-long f m b filled u))
 
-  -- where a record could follow before and still can, fewer than 65,535 bytes are held
-  pub feed-has-room :
-      ((i : ℕ) → getD b i 0 < 256) → f .dead ≡ false → fedOf f m b filled .feed .dead ≡ false → fedOf f m b filled .feed .held < 65535
-  feed-has-room bytes d after =
+  -- where a record can still follow, fewer than 65,535 bytes are held
+  pub feed-has-room : ((i : ℕ) → getD b i 0 < 256) → fedOf f m b filled .feed .dead ≡ false → fedOf f m b filled .feed .held < 65535
+  feed-has-room bytes after =
       let e = fed-on f m b filled u .0 in
-      let room = held-room takeRecord (readingOf f m) b filled (buffer-long f m b filled u) bytes d (ap (λ (r : Fed). r .feed .dead) e ∙ after) in
+      let room = held-room takeRecord (readingOf f m) b filled (buffer-long f m b filled u) bytes (ap (λ (r : Fed). r .feed .dead) e ∙ after) in
       omega (arith, room, ap (λ (r : Fed). r .feed .held) e)
 
   -- after a call that was answered 0 the ledger is sound and the map and the buffer have their sizes: a next one is refused only for its count of refused

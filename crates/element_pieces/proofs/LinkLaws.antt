@@ -43,11 +43,10 @@ module _ (f : Inflow) (b : List ℕ) (filled : ℕ) (u : flowAnswer f b filled �
       (held-on takeRecord (readingOf f) b filled p h within (buffer-long f b filled u))
 
   -- an inflow whose bytes are not dead holds fewer than 65,535 after a call
-  pub flow-has-room :
-      ((i : ℕ) → getD b i 0 < 256) → f .dead ≡ false → flowedOf f b filled .flow .dead ≡ false → flowedOf f b filled .flow .held < 65535
-  flow-has-room bytes d after =
+  pub flow-has-room : ((i : ℕ) → getD b i 0 < 256) → flowedOf f b filled .flow .dead ≡ false → flowedOf f b filled .flow .held < 65535
+  flow-has-room bytes after =
       let e = flowed-on f b filled u .0 in
-      let room = held-room takeRecord (readingOf f) b filled (buffer-long f b filled u) bytes d (ap (λ (r : Flowed). r .flow .dead) e ∙ after) in
+      let room = held-room takeRecord (readingOf f) b filled (buffer-long f b filled u) bytes (ap (λ (r : Flowed). r .flow .dead) e ∙ after) in
       omega (arith, room, ap (λ (r : Flowed). r .flow .held) e)
 
   -- a call that was answered 0 leaves the table sound and the buffer its size: a next one is refused only for its count of refused records (252) or for a

@@ -50,8 +50,8 @@ module _ (b : List ℕ) (filled : ℕ) (l : filled ≤ length b) where
       dead-front (restOf (take filled b)) (drop (heldAfter b filled) b) (test (leb 2 (length (restOf (take filled b)))))
 
   -- the move keeps the length of the buffer
-  pub moved-long : stop ≤ filled → length (moved b stop filled) ≡ length b
-  moved-long s =
+  pub moved-long : length (moved b stop filled) ≡ length b
+  moved-long =
       ap length moved-is ∙ length-append (restOf (take filled b)) (drop (heldAfter b filled) b) ∙
       (let d : length (drop (heldAfter b filled) b) ≡ length b - heldAfter b filled = length-drop (heldAfter b filled) b in
       omega (arith, rest-long))
@@ -147,7 +147,7 @@ module _ {S : Type 0} (step : S → List ℕ → S) where
           state = (λ i. takeAll step (on .state i) (recordsOf (sym whole i)));
           rest = rest-moved b filled l ∙ ap restOf (sym whole);
           dead = dead-moved b filled l ∙ ap (λ (x : List ℕ). deadRest (restOf x) (length (restOf x))) (sym whole);
-          room = omega (arith, moved-long b filled l (stop-before b filled));
+          room = omega (arith, moved-long b filled l);
         }))
 
     -- one piece more
@@ -163,22 +163,25 @@ module _ {S : Type 0} (step : S → List ℕ → S) where
     fit p (holds d) = let e = on-dead h b filled d in coe 1 0 (i. Fit (e .0 i) (e .1 i)) (p, refl)
     fit p (fails d) =
         let e = on-more h b filled d in
-        coe 1 0 (i. Fit (e .0 i) (e .1 i)) (all-keep step P kept (h .state) (recordsOf (take filled b)) p, moved-long b filled l (stop-before b filled))
+        coe 1 0 (i. Fit (e .0 i) (e .1 i)) (all-keep step P kept (h .state) (recordsOf (take filled b)) p, moved-long b filled l)
 
     pub stays-fit : P (h .state) → Fit (heldOn step h b filled) (bufferOn h b filled)
     stays-fit p = fit p (test (h .dead))
 
-  -- what is held after a piece, where a record can follow it and could before, is below 65,535 bytes
+  -- what is held after a piece, where a record can follow it, is below 65,535 bytes
   pub held-room :
       (h : Held S) (b : List ℕ) (filled : ℕ) →
       filled ≤ length b →
       ((i : ℕ) → getD b i 0 < 256) →
-      h .dead ≡ false →
       heldOn step h b filled .dead ≡ false →
       heldOn step h b filled .held < 65535
-  held-room h b filled l bytes d after =
-      let e = on-more h b filled d .0 in
-      omega (arith, ap (λ (k : Held S). k .held) e, held-few b filled l bytes (ap (λ (k : Held S). k .dead) (sym e) ∙ after))
+  held-room h b filled l bytes after = room (test (h .dead))
+    where
+      room : Tested (h .dead) → heldOn step h b filled .held < 65535
+      room (holds d) = absurd (true≢false (sym (ap (λ (k : Held S). k .dead) (on-dead h b filled d .0) ∙ d) ∙ after))
+      room (fails d) =
+          let e = on-more h b filled d .0 in
+          omega (arith, ap (λ (k : Held S). k .held) e, held-few b filled l bytes (ap (λ (k : Held S). k .dead) (sym e) ∙ after))
 
   -- after all pieces
   pub held-whole : (t : S) (ps : List (List ℕ)) (h : Held S) (b : List ℕ) → Holding h b (fedAll step (beginning t) ps) →
