@@ -27,8 +27,9 @@ use Rattle.ledger.proofs.TakeLaws.{accepted-record, accepted-verdict, accepted-
 use Rattle.slot.specs.Slot.{freeSlot, openedBy, steppedBy}
 use Rattle.desk_scan.specs.Desk.{placeOf, slotOf, numberIn}
 use Rattle.desk_rules.specs.Rules.{lookAt, stepIn}
+use Rattle.desk_rules.specs.Right.{OpenRight, StepRight, CloseRight}
 use Rattle.desk_rules.specs.Plan.{ledgerClosed}
-use Rattle.desk_rules.proofs.MessageLaws.{Opened, Stepped, Closed, opened, stepped, closed, accepted-kind, refused-same}
+use Rattle.desk_rules.proofs.MessageLaws.{open-right, step-right, close-right, opened, stepped, closed, accepted-kind, refused-same}
 use Rattle.desk_days.specs.Day.{State, Arrival, message, booked, answerTo, after, afterAll, acceptedOf}
 use Rattle.desk_days.specs.Story.{Deed, opens, steps, closes, takes, messageIn, deedOf}
 use Rattle.desk_days.specs.Late.{told}
@@ -72,24 +73,25 @@ module _ (st : State) (s : List ℕ) where
         desk = set (st .desk) (placeOf (numberIn s) (st .desk)) freeSlot;
       }
 
+  -- what was asked of an accepted open, step and close
   abbrev pub IsOpened : Type 0
-  IsOpened = Opened (st .ledger) (st .map) (st .desk) s
+  IsOpened = OpenRight (st .ledger) (st .map) (st .desk) s
 
   abbrev pub IsStepped : Type 0
-  IsStepped = Stepped (st .ledger) (st .map) (st .desk) s
+  IsStepped = StepRight (st .ledger) (st .map) (st .desk) s
 
   abbrev pub IsClosed : Type 0
-  IsClosed = Closed (st .ledger) (st .map) (st .desk) s
+  IsClosed = CloseRight (st .ledger) (st .map) (st .desk) s
 
-  -- the state after an accepted open, an accepted step and an accepted close
-  pub after-opened : IsOpened → after st (message s) ≡ withOpened
-  after-opened o = λ i. record { ledger = o .ledger i; map = o .map i; desk = o .desk i }
+  -- and the state after it
+  pub after-opened : answerTo st (message s) ≡ 0 → kindOf s ≡ 16 → after st (message s) ≡ withOpened
+  after-opened a k = let o = opened (st .ledger) (st .map) (st .desk) s a k in λ i. record { ledger = o .ledger i; map = o .map i; desk = o .desk i }
 
-  pub after-stepped : IsStepped → after st (message s) ≡ withStepped
-  after-stepped o = λ i. record { ledger = o .ledger i; map = o .map i; desk = o .desk i }
+  pub after-stepped : answerTo st (message s) ≡ 0 → kindOf s ≡ 17 → after st (message s) ≡ withStepped
+  after-stepped a k = let o = stepped (st .ledger) (st .map) (st .desk) s a k in λ i. record { ledger = o .ledger i; map = o .map i; desk = o .desk i }
 
-  pub after-closed : IsClosed → after st (message s) ≡ withClosed
-  after-closed o = λ i. record { ledger = o .ledger i; map = o .map i; desk = o .desk i }
+  pub after-closed : answerTo st (message s) ≡ 0 → kindOf s ≡ 18 → after st (message s) ≡ withClosed
+  after-closed a k = let o = closed (st .ledger) (st .map) (st .desk) s a k in λ i. record { ledger = o .ledger i; map = o .map i; desk = o .desk i }
 
 -- an accepted year sheet
 pub record SheetTaken (l : Ledger) (m s : List ℕ) : Type 0 where
@@ -180,14 +182,14 @@ module _ (st : State) (s : List ℕ) (as′ : List Arrival) where
 
       by-kind : answerTo st (message s) ≡ 0 → (kindOf s ≡ 16) ⊎ ((kindOf s ≡ 17) ⊎ (kindOf s ≡ 18)) → P (after st (message s)) (told st (message s ∷ as′))
       by-kind a (inl k) =
-          let o = opened (st .ledger) (st .map) (st .desk) s a k in
-          at (withOpened st s) (λ t. opens (headIn s) ∷ told t as′) (after-opened st s o) (told-kind a 16 k) (opening a k o)
+          let o = open-right (st .ledger) (st .map) (st .desk) s a k in
+          at (withOpened st s) (λ t. opens (headIn s) ∷ told t as′) (after-opened st s a k) (told-kind a 16 k) (opening a k o)
       by-kind a (inr (inl k)) =
-          let o = stepped (st .ledger) (st .map) (st .desk) s a k in
-          at (withStepped st s) (λ t. steps (numberIn s) (stepIn s) ∷ told t as′) (after-stepped st s o) (told-kind a 17 k) (stepping a k o)
+          let o = step-right (st .ledger) (st .map) (st .desk) s a k in
+          at (withStepped st s) (λ t. steps (numberIn s) (stepIn s) ∷ told t as′) (after-stepped st s a k) (told-kind a 17 k) (stepping a k o)
       by-kind a (inr (inr k)) =
-          let o = closed (st .ledger) (st .map) (st .desk) s a k in
-          at (withClosed st s) (λ t. closes (numberIn s) ∷ told t as′) (after-closed st s o) (told-kind a 18 k) (closing a k o)
+          let o = close-right (st .ledger) (st .map) (st .desk) s a k in
+          at (withClosed st s) (λ t. closes (numberIn s) ∷ told t as′) (after-closed st s a k) (told-kind a 18 k) (closing a k o)
 
       go : Tested (eqb (answerTo st (message s)) 0) → P (after st (message s)) (told st (message s ∷ as′))
       go (holds e) = let a = eqb-true _ _ e in by-kind a (accepted-kind (st .ledger) (st .map) (st .desk) s a)

@@ -25,11 +25,11 @@ use Rattle.slot.specs.Slot.{freeSlot, openedBy, steppedBy, courseIn}
 use Rattle.desk_scan.specs.Desk.{slotCount, numberAt, placeOf, slotOf, numberIn}
 use Rattle.desk_scan.proofs.SearchLaws.{place-set-same, place-set-other, place-set-gone, desk-slots, desk-differ}
 use Rattle.desk_rules.specs.Rules.{stepIn}
-use Rattle.desk_rules.proofs.MessageLaws.{opened, stepped, closed}
+use Rattle.desk_rules.proofs.MessageLaws.{open-right, step-right, close-right}
 use Rattle.desk_days.specs.Day.{State, Arrival, message, booked, bytesOf, answerTo, after, afterAll, Sound}
 use Rattle.desk_days.specs.Story.{Deed, opens, steps, closes, closings, headFor, stepsFor, slotHolding}
 use Rattle.desk_days.specs.Late.{told, Replies, steppedAll, Holding, Begun}
-use Rattle.desk_days.proofs.AfterLaws.{IsOpened, IsStepped, IsClosed, withOpened, withStepped, withClosed, telling-cases, entering-cases}
+use Rattle.desk_days.proofs.AfterLaws.{IsOpened, IsStepped, IsClosed, withOpened, withStepped, withClosed, after-opened, telling-cases, entering-cases}
 use Rattle.desk_days.proofs.SoundDay.{size-right, not-unsound, place-within, slot-number, place-open, sound-stays-sound, sound-throughout}
 use Rattle.desk_days.proofs.MarkedDay.{marks-stay-throughout}
 
@@ -149,7 +149,7 @@ folded-into-its-own st s kind a as′ u =
     end = afterAll (after st (message s)) as′ .desk
 
     o : IsOpened st s
-    o = opened (st .ledger) (st .map) (st .desk) s a kind
+    o = open-right (st .ledger) (st .map) (st .desk) s a kind
 
     numbered : numberIn s ≢ 0
     numbered = listed-number (headIn s) (o .head-listed)
@@ -162,7 +162,7 @@ folded-into-its-own st s kind a as′ u =
 
     begun : getD (after st (message s) .desk) i freeSlot ≡ openedBy (headIn s)
     begun =
-        ap (λ d. getD d i freeSlot) (o .desk) ∙
+        ap (λ (t : State). getD (t .desk) i freeSlot) (after-opened st s a kind) ∙
         getD-set-same (st .desk) i (openedBy (headIn s)) freeSlot (place-within st sound-before 0 (o .room))
 
     slot : getD end i freeSlot ≡ steppedAll (openedBy (headIn s)) (stepsFor (numberIn s) (told (after st (message s)) as′))
@@ -271,7 +271,7 @@ module _ (v : ℕ) (numbered : v ≢ 0) where
 marked-not-begun : (v : ℕ) (st : State) (as′ : List Arrival) → marked (st .map) v ≡ true → Begun v st as′ → ⊥
 marked-not-begun v st as′ e b =
     let t = afterAll st (b .before) in
-    let o = opened (t .ledger) (t .map) (t .desk) (b .opening) (b .accepted) (b .kind) in
+    let o = open-right (t .ledger) (t .map) (t .desk) (b .opening) (b .accepted) (b .kind) in
     true≢false (sym (marks-stay-throughout st (b .before) v e) ∙ ap (marked (t .map)) (sym (b .number)) ∙ o .unmarked)
 
 module _ (v : ℕ) (numbered : v ≢ 0) where
@@ -296,7 +296,7 @@ module _ (v : ℕ) (numbered : v ≢ 0) where
 
       used : marked (after st (message s) .map) v ≡ true
       used =
-          ap (λ m. marked m v) (o .map) ∙
+          ap (λ (t : State). marked (t .map) v) (after-opened st s a k) ∙
           subst (λ w. marked (markedWith (st .map) (numberIn s)) w ≡ true) n
           (markedWith-same (st .map) (numberIn s) (size-right (st .ledger) (st .map) (o .ledger-sound)) (le16-below s b 4) (listed-number (headIn s) (o .head-listed)))
 
@@ -424,5 +424,5 @@ reply-into-its-own st sound before b s (k, _) a n = go k
         (kindOf s ≡ 17) ⊎ (kindOf s ≡ 18) →
         slotOf (numberIn s) (t .desk) ≡
         steppedAll (openedBy (headFor (numberIn s) (told st before))) (stepsFor (numberIn s) (told st before))
-    go (inl k) = let o = stepped (t .ledger) (t .map) (t .desk) s a k in one-outage (numberIn s) (o .numbered) st before sound b n (o .found)
-    go (inr k) = let o = closed (t .ledger) (t .map) (t .desk) s a k in one-outage (numberIn s) (o .numbered) st before sound b n (o .found)
+    go (inl k) = let o = step-right (t .ledger) (t .map) (t .desk) s a k in one-outage (numberIn s) (o .numbered) st before sound b n (o .found)
+    go (inr k) = let o = close-right (t .ledger) (t .map) (t .desk) s a k in one-outage (numberIn s) (o .numbered) st before sound b n (o .found)

@@ -24,7 +24,7 @@ use Rattle.desk_scan.proofs.SearchLaws.{set-cases, missing, desk-slots}
 use Rattle.desk_rules.specs.Rules.{stepIn, lengthWrong}
 use Rattle.desk_rules.specs.Plan.{lookAnswer}
 use Rattle.desk_rules.specs.Serve.{messageAnswer}
-use Rattle.desk_rules.proofs.MessageLaws.{closed}
+use Rattle.desk_rules.proofs.MessageLaws.{close-right}
 use Rattle.desk_days.specs.Day.{State, Arrival, message, booked, bytesOf, answerTo, after, afterAll, Sound, Marked}
 use Rattle.desk_days.specs.Story.{Deed, opens, steps, closes, names, about}
 use Rattle.desk_days.specs.Late.{told, usings, Replies, Begins, Refused, lateRules, againRules, TooLate}
@@ -96,16 +96,19 @@ gone-throughout v st g [] = g
 gone-throughout v st g (a ∷ as′) = gone-throughout v (after st a) (gone-stays v st g a) as′
 
 -- an accepted close, where its number is marked
-pub closed-gone : (st : State) → Marked st → (s : List ℕ) → IsClosed st s → Gone (numberIn s) (after st (message s))
-closed-gone st k s o =
+pub closed-gone : (st : State) → Marked st → (s : List ℕ) → answerTo st (message s) ≡ 0 → kindOf s ≡ 18 → Gone (numberIn s) (after st (message s))
+closed-gone st k s a kind =
     record {
       sound = sound-stays-sound st (message s) sound;
       sheet = sheet-stays st (message s) (o .sheet);
       numbered = o .numbered;
       used = marks-stay st (message s) v (subst (λ n. marked (st .map) n ≡ true) number (marked-at (st .map) (st .desk) k place (λ z. o .numbered (sym number ∙ z))));
-      out = λ i. subst (λ (t : State). numberAt (getD (t .desk) i freeSlot) ≢ v) (sym (after-closed st s o)) (freed i);
+      out = λ i. subst (λ (t : State). numberAt (getD (t .desk) i freeSlot) ≢ v) (sym (after-closed st s a kind)) (freed i);
     }
   where
+    o : IsClosed st s
+    o = close-right (st .ledger) (st .map) (st .desk) s a kind
+
     v : ℕ
     v = numberIn s
 
@@ -255,7 +258,7 @@ pub late-reply :
     TooLate (numberIn s) (afterAll (after st (message s)) as′)
 late-reply st k s kind a as′ =
     gone-too-late (numberIn s) (afterAll (after st (message s)) as′)
-    (gone-throughout (numberIn s) (after st (message s)) (closed-gone st k s (closed (st .ledger) (st .map) (st .desk) s a kind)) as′)
+    (gone-throughout (numberIn s) (after st (message s)) (closed-gone st k s a kind) as′)
 
 -- None of them is accepted: no accepted arrival after the close opens, steps or closes v, and none uses its number in a book event.
 pub closed-for-good :
@@ -267,7 +270,7 @@ pub closed-for-good :
     (as′ : List Arrival) →
     (about (numberIn s) (told (after st (message s)) as′) ≡ []) × All (λ w. w ≡ numberIn s → ⊥) (usings (told (after st (message s)) as′))
 closed-for-good st k s kind a as′ =
-    let g = closed-gone st k s (closed (st .ledger) (st .map) (st .desk) s a kind) in
+    let g = closed-gone st k s a kind in
     (nothing-told (numberIn s) (after st (message s)) g as′, not-again (after st (message s)) as′ (numberIn s) (g .used))
 
 -- The same in a day that began sound, with every open number marked.

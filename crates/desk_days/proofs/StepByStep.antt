@@ -31,20 +31,21 @@ use Rattle.desk_scan.specs.Desk.{slotCount, emptyDesk, numberAt, numbersOf, num
 use Rattle.desk_scan.proofs.SearchLaws.{desk-differ}
 use Rattle.desk_rules.specs.Rules.{stepIn}
 use Rattle.desk_rules.specs.Serve.{messageAnswer}
-use Rattle.desk_rules.proofs.MessageLaws.{Opened, Stepped, Closed, opened, stepped, closed, accepted-kind}
+use Rattle.desk_rules.proofs.MessageLaws.{open-right, step-right, close-right, accepted-kind}
 use Rattle.desk_days.specs.Day.{State, Arrival, message, booked, bytesOf, answerTo, after, afterAll, acceptedOf}
 use Rattle.desk_days.specs.Story.{Deed, opens, steps, closes, takes, messageIn, deedOf, steppedEventIn, eventFor, about, openDeeds, openings, closings, recordOf, closedRecords, completeIn, completeRecords, markedAll, emptyDay, NothingOpen, Once, headFor, stepsFor}
 use Rattle.desk_days.proofs.EncodeLaws.{Passed, read-back}
 use Rattle.desk_days.proofs.StoryLaws.{all-map, all-of-map}
 use Rattle.desk_days.proofs.OpenMarks.{all-none}
-use Rattle.desk_days.proofs.AfterLaws.{refused-after}
+use Rattle.desk_days.proofs.AfterLaws.{refused-after, after-opened, after-stepped, after-closed}
 use Rattle.desk_days.proofs.Kept.{at, ToldOf, Kept, open-next, step-next, close-next, entry-next}
 
 module _ (l₀ : Ledger) (m₀ : List ℕ) where
   -- a message, by its kind
   module _ (ds : List Deed) (st : State) (k : Kept l₀ m₀ ds st) (s : List ℕ) (b : Bytes s) where
-    opened-keeps : Opened (st .ledger) (st .map) (st .desk) s → Kept l₀ m₀ (ds ++ opens (headIn s) ∷ []) (after st (message s))
-    opened-keeps o =
+    opened-keeps : answerTo st (message s) ≡ 0 → kindOf s ≡ 16 → Kept l₀ m₀ (ds ++ opens (headIn s) ∷ []) (after st (message s))
+    opened-keeps a e =
+        let o = open-right (st .ledger) (st .map) (st .desk) s a e in
         let sized : Bool = eqb (length (st .map)) mapSize in
         let size : length (st .map) ≡ mapSize = eqb-true _ _ (not-false sized (or-left (not sized) (not (soundLedger (st .ledger))) (o .ledger-sound))) in
         let p : Passed (st .ledger .sheet) (record { head = headIn s; steps = [] }) =
@@ -58,19 +59,20 @@ module _ (l₀ : Ledger) (m₀ : List ℕ) where
           few = omega arith;
           in-bytes = record { head = head-in-bytes s b; steps = tt };
         } in
-        subst (Kept l₀ m₀ (ds ++ opens (headIn s) ∷ [])) (λ i. record { ledger = sym (o .ledger) i; map = sym (o .map) i; desk = sym (o .desk) i })
+        subst (Kept l₀ m₀ (ds ++ opens (headIn s) ∷ [])) (sym (after-opened st s a e))
         (open-next l₀ m₀ ds st k (headIn s) (o .room) size (o .unmarked) p)
 
-    stepped-keeps : Stepped (st .ledger) (st .map) (st .desk) s → Kept l₀ m₀ (ds ++ steps (numberIn s) (stepIn s) ∷ []) (after st (message s))
-    stepped-keeps o =
-        subst (Kept l₀ m₀ (ds ++ steps (numberIn s) (stepIn s) ∷ []))
-        (λ i. record { ledger = sym (o .ledger) i; map = sym (o .map) i; desk = sym (o .desk) i })
+    stepped-keeps : answerTo st (message s) ≡ 0 → kindOf s ≡ 17 → Kept l₀ m₀ (ds ++ steps (numberIn s) (stepIn s) ∷ []) (after st (message s))
+    stepped-keeps a e =
+        let o = step-right (st .ledger) (st .map) (st .desk) s a e in
+        subst (Kept l₀ m₀ (ds ++ steps (numberIn s) (stepIn s) ∷ [])) (sym (after-stepped st s a e))
         (step-next l₀ m₀ ds st k (numberIn s) (o .numbered) (o .found) (desk-differ (st .desk) (o .desk-sound)) (stepIn s)
         (omega (arith, o .ordinal, o .few)) (o .timely) (o .within) (o .level) (step-in-bytes s b 7))
 
-    closed-keeps : Closed (st .ledger) (st .map) (st .desk) s → Kept l₀ m₀ (ds ++ closes (numberIn s) ∷ []) (after st (message s))
-    closed-keeps o =
-        subst (Kept l₀ m₀ (ds ++ closes (numberIn s) ∷ [])) (λ i. record { ledger = sym (o .ledger) i; map = sym (o .map) i; desk = sym (o .desk) i })
+    closed-keeps : answerTo st (message s) ≡ 0 → kindOf s ≡ 18 → Kept l₀ m₀ (ds ++ closes (numberIn s) ∷ []) (after st (message s))
+    closed-keeps a e =
+        let o = close-right (st .ledger) (st .map) (st .desk) s a e in
+        subst (Kept l₀ m₀ (ds ++ closes (numberIn s) ∷ [])) (sym (after-closed st s a e))
         (close-next l₀ m₀ ds st k (numberIn s) (o .numbered) (o .found) (desk-differ (st .desk) (o .desk-sound))
         (o .ledger-sound) (λ z. o .some (o .all ∙ z)) (o .room))
 
@@ -85,9 +87,9 @@ module _ (l₀ : Ledger) (m₀ : List ℕ) where
         as-kind kind e g = subst (λ n. Kept l₀ m₀ (ds ++ messageIn n s ∷ []) (after st (message s))) (sym e) g
 
         go : (kindOf s ≡ 16) ⊎ ((kindOf s ≡ 17) ⊎ (kindOf s ≡ 18)) → Kept l₀ m₀ (ds ++ deedOf (message s) ∷ []) (after st (message s))
-        go (inl e) = as-kind 16 e (opened-keeps (opened (st .ledger) (st .map) (st .desk) s a e))
-        go (inr (inl e)) = as-kind 17 e (stepped-keeps (stepped (st .ledger) (st .map) (st .desk) s a e))
-        go (inr (inr e)) = as-kind 18 e (closed-keeps (closed (st .ledger) (st .map) (st .desk) s a e))
+        go (inl e) = as-kind 16 e (opened-keeps a e)
+        go (inr (inl e)) = as-kind 17 e (stepped-keeps a e)
+        go (inr (inr e)) = as-kind 18 e (closed-keeps a e)
 
   -- an accepted arrival is one deed more
   accepted-keeps :

@@ -14,6 +14,7 @@ use Rattle.base.specs.Lists.{listed}
 use Rattle.base.proofs.FirstLaws.{exactly-then, answered-rule, passed-rule, unclear, first-listed}
 use Rattle.base.proofs.TestLaws.{or-both}
 use Rattle.wire.specs.Frame.{framed, kindOf}
+use Rattle.codes.specs.Ranges.{mostEvents}
 use Rattle.annex.specs.Times.{minutesIn}
 use Rattle.used_numbers.specs.Marks.{marked}
 use Rattle.fields.specs.Fields.{headIn}
@@ -25,7 +26,7 @@ use Rattle.desk_rules.specs.Rules.{lookAt, ordinalIn, rules, rulesAt}
 use Rattle.desk_rules.specs.Right.{OpenRight, StepRight, CloseRight}
 use Rattle.desk_rules.specs.Plan.{lookAnswer}
 use Rattle.desk_rules.specs.Serve.{messageAnswer}
-use Rattle.desk_rules.proofs.MessageLaws.{rising, opened, stepped, closed}
+use Rattle.desk_rules.proofs.MessageLaws.{rules-rise, open-right, step-right, close-right}
 
 module _ (l : Ledger) (m : List ℕ) (d : List Slot) (s : List ℕ) where
   abbrev rulesHere : List Rule
@@ -34,7 +35,7 @@ module _ (l : Ledger) (m : List ℕ) (d : List Slot) (s : List ℕ) where
   -- n is answered exactly where what n stands for applies and no rule before it does, and 0 exactly where no rule applies
   pub exactly : (n : ℕ) → (messageAnswer l m d s ≡ n) ↔ Foremost n (rules (lookAt d s) l m s)
   unfolding messageAnswer lookAnswer
-  exactly n = exactly-then n rulesHere (rising l m d s)
+  exactly n = exactly-then n rulesHere (rules-rise l m d s)
 
   -- every answer is one of these numbers
   pub exactly-no-other : listed (messageAnswer l m d s) (0 ∷ 1 ∷ 2 ∷ 3 ∷ 4 ∷ 5 ∷ 7 ∷ 8 ∷ 9 ∷ 10 ∷ 11 ∷ 12 ∷ 14 ∷ 15 ∷ 16 ∷ []) ≡ true
@@ -44,11 +45,11 @@ module _ (l : Ledger) (m : List ℕ) (d : List Slot) (s : List ℕ) where
   -- by the rules' numbers: where a number is answered, what it stands for applies, and nothing that a smaller number stands for
   pub number-applies : (n : ℕ) → messageAnswer l m d s ≡ n → (n ≡ 0 → ⊥) → ruleOf n (rules (lookAt d s) l m s) ≡ true
   unfolding messageAnswer lookAnswer
-  number-applies n e z = answered-rule n rulesHere e z 0 (rising l m d s)
+  number-applies n e z = answered-rule n rulesHere e z 0 (rules-rise l m d s)
 
   pub passed-over : (n i : ℕ) → messageAnswer l m d s ≡ n → i < n → ruleOf i (rules (lookAt d s) l m s) ≡ false
   unfolding messageAnswer lookAnswer
-  passed-over n i e below = passed-rule n i below rulesHere e 0 (rising l m d s)
+  passed-over n i e below = passed-rule n i below rulesHere e 0 (rules-rise l m d s)
 
   -- an open, a step and a close are each accepted exactly where the facts named for it hold, and nothing else is asked of it
   accepted-at :
@@ -67,24 +68,8 @@ module _ (l : Ledger) (m : List ℕ) (d : List Slot) (s : List ℕ) where
       )
 
   pub exactly-open : kindOf s ≡ 16 → (messageAnswer l m d s ≡ 0) ↔ OpenRight l m d s
-  exactly-open k = (there, back)
+  exactly-open k = ((λ a. open-right l m d s a k), back)
     where
-      there : messageAnswer l m d s ≡ 0 → OpenRight l m d s
-      there a =
-          let o = opened l m d s a k in
-          record {
-            ledger-sound = o .ledger-sound;
-            desk-sound = o .desk-sound;
-            whole = o .whole;
-            long = o .long;
-            sheet = o .sheet;
-            head-listed = o .head-listed;
-            timely = o .timely;
-            unmarked = o .unmarked;
-            not-open = o .not-open;
-            room = o .room;
-          }
-
       back : OpenRight l m d s → messageAnswer l m d s ≡ 0
       back r =
           let by4 = ap not (eq-eqb (length s) 13 (r .long)) in
@@ -98,26 +83,8 @@ module _ (l : Ledger) (m : List ℕ) (d : List Slot) (s : List ℕ) where
           (refl, (by4, (by5, (by7, (refl, (refl, (by10, (refl, (refl, (by14, (refl, (by16, tt))))))))))))
 
   pub exactly-step : kindOf s ≡ 17 → (messageAnswer l m d s ≡ 0) ↔ StepRight l m d s
-  exactly-step k = (there, back)
+  exactly-step k = ((λ a. step-right l m d s a k), back)
     where
-      there : messageAnswer l m d s ≡ 0 → StepRight l m d s
-      there a =
-          let o = stepped l m d s a k in
-          record {
-            ledger-sound = o .ledger-sound;
-            desk-sound = o .desk-sound;
-            whole = o .whole;
-            long = o .long;
-            sheet = o .sheet;
-            numbered = o .numbered;
-            found = o .found;
-            ordinal = o .ordinal;
-            few = o .few;
-            timely = o .timely;
-            within = o .within;
-            level = o .level;
-          }
-
       back : StepRight l m d s → messageAnswer l m d s ≡ 0
       back r =
           let next : Bool = eqb (ordinalIn s) (slotOf (numberIn s) d .steps + 1) in
@@ -130,24 +97,8 @@ module _ (l : Ledger) (m : List ℕ) (d : List Slot) (s : List ℕ) where
           (refl, (by4, (by5, (by7, (by8, (by9, (r .timely, (r .within, (r .level, (refl, (refl, (refl, tt))))))))))))
 
   pub exactly-close : kindOf s ≡ 18 → (messageAnswer l m d s ≡ 0) ↔ CloseRight l m d s
-  exactly-close k = (there, back)
+  exactly-close k = ((λ a. close-right l m d s a k), back)
     where
-      there : messageAnswer l m d s ≡ 0 → CloseRight l m d s
-      there a =
-          let o = closed l m d s a k in
-          record {
-            ledger-sound = o .ledger-sound;
-            desk-sound = o .desk-sound;
-            whole = o .whole;
-            long = o .long;
-            sheet = o .sheet;
-            numbered = o .numbered;
-            found = o .found;
-            some = o .some;
-            all = o .all;
-            room = o .room;
-          }
-
       back : CloseRight l m d s → messageAnswer l m d s ≡ 0
       back r =
           let taken : Bool = eqb (ordinalIn s) (slotOf (numberIn s) d .steps) in
@@ -156,6 +107,6 @@ module _ (l : Ledger) (m : List ℕ) (d : List Slot) (s : List ℕ) where
           let by7 = ne-eqb (numberIn s) 0 (r .numbered) in
           let by8 = lt-leb slotCount (placeOf (numberIn s) d) (r .found) in
           let by9 = or-both (eqb (ordinalIn s) 0) (not taken) (ne-eqb (ordinalIn s) 0 (r .some)) (ap not (eq-eqb _ _ (r .all))) in
-          let by15 = lt-leb 65535 (l .events) (r .room) in
+          let by15 = lt-leb mostEvents (l .events) (r .room) in
           accepted-at 18 k (r .ledger-sound) (r .desk-sound) (r .whole)
           (refl, (by4, (by5, (by7, (by8, (by9, (refl, (refl, (refl, (refl, (by15, (refl, tt))))))))))))

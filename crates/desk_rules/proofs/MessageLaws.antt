@@ -1,6 +1,6 @@
 -- What a desk message tells and does, by its answer and its kind: the rules are read in their order, once, and later laws cite what is said here
 -- and not the rules' places. Assumes nothing.
-use Prim.Native.Nat.{ℕ, _+_, _<_, _≤_}
+use Prim.Native.Nat.{ℕ, _+_}
 use mathlib.Core.Path.{_≡_, refl, sym, _∙_, ap, subst}
 use mathlib.Core.Logic.{_⊎_, inl, inr}
 use mathlib.Core.List.{List}
@@ -14,13 +14,12 @@ use Rattle.base.specs.First.{NoRule, Clear, Foremost, Rising}
 use Rattle.base.proofs.FirstLaws.{clear, clear-at, then}
 use Rattle.base.proofs.TestLaws.{Tested, holds, fails, test, or-left, or-right}
 use Rattle.wire.specs.Frame.{framed, kindOf}
-use Rattle.codes.specs.Codes.{levelOf}
+use Rattle.codes.specs.Ranges.{mostEvents}
 use Rattle.annex.specs.Times.{minutesIn}
 use Rattle.used_numbers.specs.Marks.{marked, markedWith}
 use Rattle.used_numbers.proofs.MarkLaws.{markedWith-zero}
 use Rattle.fields.specs.Fields.{headIn}
 use Rattle.fields.specs.Tests.{headListed}
-use Rattle.limits.specs.Limits.{exceeding, aboveLevel, lateStep}
 use Rattle.ledger.specs.declared.Ledger.{Ledger}
 use Rattle.ledger.specs.Take.{unsound}
 use Rattle.slot.specs.declared.Slot.{Slot}
@@ -28,56 +27,25 @@ use Rattle.slot.specs.Slot.{freeSlot, openedBy, steppedBy}
 use Rattle.desk_scan.specs.Desk.{slotCount, deskSound, placeOf, slotOf, numberIn}
 use Rattle.desk_rules.specs.declared.Plan.{Plan}
 use Rattle.desk_rules.specs.Rules.{lookAt, ordinalIn, stepIn, byMessage, kindNotTaken, rules, rulesAt}
+use Rattle.desk_rules.specs.Right.{OpenRight, StepRight, CloseRight}
 use Rattle.desk_rules.specs.Plan.{refusedPlan, ledgerClosed, acceptedPlan, lookAnswer}
 use Rattle.desk_rules.specs.Serve.{messageAnswer, planned, ledgerServed, mapServed, deskServed}
 use Rattle.desk_rules.proofs.PlanLaws.{plan-refused, plan-accepted}
 
--- an accepted open (kind 16)
+-- ledger, map and desk after an accepted open (kind 16)
 pub record Opened (l : Ledger) (m : List ℕ) (d : List Slot) (s : List ℕ) : Type 0 where
-  pub ledger-sound : unsound l m ≡ false
-  pub desk-sound : deskSound d ≡ true
-  pub whole : framed s ≡ true
-  pub long : length s ≡ 13
-  pub sheet : l .sheet .there ≡ true
-  pub head-listed : headListed (headIn s) ≡ true
-  pub timely : headIn s .t0 < minutesIn (l .sheet .year)
-  pub unmarked : marked m (numberIn s) ≡ false
-  pub not-open : slotCount ≤ placeOf (numberIn s) d
-  pub room : placeOf 0 d < slotCount
   pub ledger : ledgerServed l m d s ≡ l
   pub map : mapServed l m d s ≡ markedWith m (numberIn s)
   pub desk : deskServed l m d s ≡ set d (placeOf 0 d) (openedBy (headIn s))
 
--- an accepted step (kind 17)
+-- after an accepted step (kind 17)
 pub record Stepped (l : Ledger) (m : List ℕ) (d : List Slot) (s : List ℕ) : Type 0 where
-  pub ledger-sound : unsound l m ≡ false
-  pub desk-sound : deskSound d ≡ true
-  pub whole : framed s ≡ true
-  pub long : length s ≡ 23
-  pub sheet : l .sheet .there ≡ true
-  pub numbered : numberIn s ≡ 0 → ⊥
-  pub found : placeOf (numberIn s) d < slotCount
-  pub ordinal : ordinalIn s ≡ slotOf (numberIn s) d .steps + 1
-  pub few : ordinalIn s ≤ 64
-  pub timely : lateStep (slotOf (numberIn s) d .last) (stepIn s .time) ≡ false
-  pub within : exceeding (l .sheet .totals) (stepIn s .counts) ≡ false
-  pub level : aboveLevel (levelOf (slotOf (numberIn s) d .head .voltage)) (stepIn s .counts) ≡ false
   pub ledger : ledgerServed l m d s ≡ l
   pub map : mapServed l m d s ≡ m
   pub desk : deskServed l m d s ≡ set d (placeOf (numberIn s) d) (steppedBy (slotOf (numberIn s) d) (stepIn s))
 
--- an accepted close (kind 18)
+-- after an accepted close (kind 18)
 pub record Closed (l : Ledger) (m : List ℕ) (d : List Slot) (s : List ℕ) : Type 0 where
-  pub ledger-sound : unsound l m ≡ false
-  pub desk-sound : deskSound d ≡ true
-  pub whole : framed s ≡ true
-  pub long : length s ≡ 7
-  pub sheet : l .sheet .there ≡ true
-  pub numbered : numberIn s ≡ 0 → ⊥
-  pub found : placeOf (numberIn s) d < slotCount
-  pub some : ordinalIn s ≡ 0 → ⊥
-  pub all : ordinalIn s ≡ slotOf (numberIn s) d .steps
-  pub room : l .events < 65535
   pub ledger : ledgerServed l m d s ≡ ledgerClosed (lookAt d s) l
   pub map : mapServed l m d s ≡ m
   pub desk : deskServed l m d s ≡ set d (placeOf (numberIn s) d) freeSlot
@@ -96,8 +64,8 @@ kind-taken kind e = go (test (eqb kind 16)) (test (eqb kind 17)) (test (eqb kind
 
 module _ (l : Ledger) (m : List ℕ) (d : List Slot) (s : List ℕ) where
   -- the numbers of the rules rise, and all are above 0
-  pub rising : Rising 0 (rules (lookAt d s) l m s)
-  rising = (tt, (tt, (tt, (tt, (tt, (tt, (tt, (tt, (tt, (tt, (tt, (tt, (tt, (tt, tt))))))))))))))
+  pub rules-rise : Rising 0 (rules (lookAt d s) l m s)
+  rules-rise = (tt, (tt, (tt, (tt, (tt, (tt, (tt, (tt, (tt, (tt, (tt, (tt, (tt, (tt, tt))))))))))))))
 
   -- what it does, by its plan
   does : (p : Plan) → planned l m d s ≡ p → (ledgerServed l m d s ≡ p .served .ledger) × (mapServed l m d s ≡ markedWith m (p .number)) × (deskServed l m d s ≡ set d (p .at) (p .slot))
@@ -114,7 +82,7 @@ module _ (l : Ledger) (m : List ℕ) (d : List Slot) (s : List ℕ) where
   -- no rule applies to an accepted message
   pub accepted-clear : messageAnswer l m d s ≡ 0 → Clear (rules (lookAt d s) l m s)
   unfolding messageAnswer lookAnswer
-  accepted-clear a = clear 0 (rules (lookAt d s) l m s) rising a
+  accepted-clear a = clear 0 (rules (lookAt d s) l m s) rules-rise a
 
   -- none of any number does
   accepted-rules : messageAnswer l m d s ≡ 0 → NoRule (rules (lookAt d s) l m s)
@@ -153,11 +121,10 @@ module _ (l : Ledger) (m : List ℕ) (d : List Slot) (s : List ℕ) where
   pub accepted-whole : messageAnswer l m d s ≡ 0 → framed s ≡ true
   accepted-whole a = not-false (framed s) (accepted-rules a 2)
 
-  -- an accepted open, step or close has all that its record above lists: what was asked of it, and ledger, map and desk after it
-  pub opened : messageAnswer l m d s ≡ 0 → kindOf s ≡ 16 → Opened l m d s
-  opened a k =
+  -- of an accepted open, step or close all that is asked of its kind holds
+  pub open-right : messageAnswer l m d s ≡ 0 → kindOf s ≡ 16 → OpenRight l m d s
+  open-right a k =
       let c = rules-at 16 a k in
-      let does = accepted-does 16 (acceptedPlan 16 (lookAt d s) l s) refl a k in
       let used : (marked m (numberIn s) || ltb (placeOf (numberIn s) d) slotCount) ≡ false = c 14 in
       record {
         ledger-sound = accepted-ledger-sound a;
@@ -170,15 +137,11 @@ module _ (l : Ledger) (m : List ℕ) (d : List Slot) (s : List ℕ) where
         unmarked = or-left (marked m (numberIn s)) (ltb (placeOf (numberIn s) d) slotCount) used;
         not-open = ltb-false (placeOf (numberIn s) d) slotCount (or-right (marked m (numberIn s)) (ltb (placeOf (numberIn s) d) slotCount) used);
         room = leb-false slotCount (placeOf 0 d) (c 16);
-        ledger = does .0;
-        map = does .1;
-        desk = does .2;
       }
 
-  pub stepped : messageAnswer l m d s ≡ 0 → kindOf s ≡ 17 → Stepped l m d s
-  stepped a k =
+  pub step-right : messageAnswer l m d s ≡ 0 → kindOf s ≡ 17 → StepRight l m d s
+  step-right a k =
       let c = rules-at 17 a k in
-      let does = accepted-does 17 (acceptedPlan 17 (lookAt d s) l s) refl a k in
       let next : Bool = eqb (ordinalIn s) (slotOf (numberIn s) d .steps + 1) in
       let many : Bool = ltb 64 (ordinalIn s) in
       let count : (not next || many) ≡ false = c 9 in
@@ -195,15 +158,11 @@ module _ (l : Ledger) (m : List ℕ) (d : List Slot) (s : List ℕ) where
         timely = c 10;
         within = c 11;
         level = c 12;
-        ledger = does .0;
-        map = does .1 ∙ markedWith-zero m;
-        desk = does .2;
       }
 
-  pub closed : messageAnswer l m d s ≡ 0 → kindOf s ≡ 18 → Closed l m d s
-  closed a k =
+  pub close-right : messageAnswer l m d s ≡ 0 → kindOf s ≡ 18 → CloseRight l m d s
+  close-right a k =
       let c = rules-at 18 a k in
-      let does = accepted-does 18 (acceptedPlan 18 (lookAt d s) l s) refl a k in
       let none : Bool = eqb (ordinalIn s) 0 in
       let same : Bool = eqb (ordinalIn s) (slotOf (numberIn s) d .steps) in
       let count : (none || not same) ≡ false = c 9 in
@@ -217,8 +176,21 @@ module _ (l : Ledger) (m : List ℕ) (d : List Slot) (s : List ℕ) where
         found = leb-false slotCount (placeOf (numberIn s) d) (c 8);
         some = eqb-false (ordinalIn s) 0 (or-left none (not same) count);
         all = eqb-true (ordinalIn s) (slotOf (numberIn s) d .steps) (not-false same (or-right none (not same) count));
-        room = leb-false 65535 (l .events) (c 15);
-        ledger = does .0;
-        map = does .1 ∙ markedWith-zero m;
-        desk = does .2;
+        room = leb-false mostEvents (l .events) (c 15);
       }
+
+  -- and it does what its record above says
+  pub opened : messageAnswer l m d s ≡ 0 → kindOf s ≡ 16 → Opened l m d s
+  opened a k =
+      let does = accepted-does 16 (acceptedPlan 16 (lookAt d s) l s) refl a k in
+      record { ledger = does .0; map = does .1; desk = does .2 }
+
+  pub stepped : messageAnswer l m d s ≡ 0 → kindOf s ≡ 17 → Stepped l m d s
+  stepped a k =
+      let does = accepted-does 17 (acceptedPlan 17 (lookAt d s) l s) refl a k in
+      record { ledger = does .0; map = does .1 ∙ markedWith-zero m; desk = does .2 }
+
+  pub closed : messageAnswer l m d s ≡ 0 → kindOf s ≡ 18 → Closed l m d s
+  closed a k =
+      let does = accepted-does 18 (acceptedPlan 18 (lookAt d s) l s) refl a k in
+      record { ledger = does .0; map = does .1 ∙ markedWith-zero m; desk = does .2 }

@@ -26,7 +26,7 @@ use Rattle.desk_scan.proofs.SearchLaws.{found-number, before, absent, missing, 
 use Rattle.desk_rules.specs.Rules.{lookAt, stepIn, rules, anyUnsound, kindNotTaken, lengthWrong, sheetMissing, notListed, notOpen}
 use Rattle.desk_rules.specs.Plan.{lookAnswer}
 use Rattle.desk_rules.specs.Serve.{messageAnswer, ledgerServed, mapServed, deskServed}
-use Rattle.desk_rules.proofs.MessageLaws.{opened, stepped, closed, refused-same, accepted-kind, accepted-desk-sound}
+use Rattle.desk_rules.proofs.MessageLaws.{open-right, step-right, close-right, opened, stepped, closed, refused-same, accepted-kind, accepted-desk-sound}
 use Rattle.desk_rules.proofs.ExactlyThen.{exactly}
 use Rattle.desk_rules.specs.Named.{StepOrClose, NotHeld, Lowest, Same, Named, WrongNumber}
 
@@ -93,8 +93,8 @@ module _ (l : Ledger) (m : List ℕ) (d : List Slot) (s : List ℕ) where
       messageAnswer l m d s ≡ 0 →
       (a : Slot) × (deskServed l m d s ≡ set d (placeOf (numberIn s) d) a) × (deskSound d ≡ true) × (placeOf (numberIn s) d < slotCount)
   replaced (inl k) a =
-      let t = stepped l m d s a k in (steppedBy (slotOf (numberIn s) d) (stepIn s), t .desk, t .desk-sound, t .found)
-  replaced (inr k) a = let t = closed l m d s a k in (freeSlot, t .desk, t .desk-sound, t .found)
+      let r = step-right l m d s a k in (steppedBy (slotOf (numberIn s) d) (stepIn s), stepped l m d s a k .desk, r .desk-sound, r .found)
+  replaced (inr k) a = let r = close-right l m d s a k in (freeSlot, closed l m d s a k .desk, r .desk-sound, r .found)
 
   -- an accepted message is one at a desk of 32 slots
   pub accepted-slots : messageAnswer l m d s ≡ 0 → length d ≡ 32
@@ -140,8 +140,8 @@ module _ (l : Ledger) (m : List ℕ) (d : List Slot) (s : List ℕ) where
       differ-apart d (desk-differ d (replaced k a .2)) i (placeOf (numberIn s) d) (λ z. numbered k (sym e ∙ z)) (e ∙ sym (named-lowest k a .held))
     where
       numbered : StepOrClose s → numberIn s ≢ 0
-      numbered (inl k) = stepped l m d s a k .numbered
-      numbered (inr k) = closed l m d s a k .numbered
+      numbered (inl k) = step-right l m d s a k .numbered
+      numbered (inr k) = close-right l m d s a k .numbered
 
   -- so whether it is accepted or not, a slot that holds another number is as it was
   pub other-numbers-same : StepOrClose s → (i : ℕ) → numberAt (getD d i freeSlot) ≢ numberIn s → Same l m d s i
@@ -171,7 +171,7 @@ module _ (l : Ledger) (m : List ℕ) (d : List Slot) (s : List ℕ) where
 
   -- where it is accepted, that slot was free, every slot before it is open, and it now holds the opened outage
   pub open-lowest : kindOf s ≡ 16 → messageAnswer l m d s ≡ 0 → Lowest 0 d (placeOf 0 d)
-  open-lowest k a = let o = opened l m d s a k in search-lowest 0 d (within-desk d (placeOf 0 d) (o .desk-sound) (o .room))
+  open-lowest k a = let r = open-right l m d s a k in search-lowest 0 d (within-desk d (placeOf 0 d) (r .desk-sound) (r .room))
 
   pub open-there : kindOf s ≡ 16 → messageAnswer l m d s ≡ 0 → getD (deskServed l m d s) (placeOf 0 d) freeSlot ≡ openedBy (headIn s)
   open-there k a =

@@ -29,7 +29,6 @@ use Rattle.slot.specs.Slot.{freeSlot, openedBy, steppedBy}
 use Rattle.desk_scan.specs.Desk.{slotCount, emptyDesk, numberAt, placeOf, slotOf, numberIn}
 use Rattle.desk_scan.proofs.SearchLaws.{missing, empty-sound}
 use Rattle.desk_rules.specs.Rules.{stepIn}
-use Rattle.desk_rules.proofs.MessageLaws.{opened, stepped, closed}
 use Rattle.desk_rules.proofs.ExactlyThen.{exactly-open, exactly-step, exactly-close}
 use Rattle.desk_days.specs.Day.{State, message, answerTo, after, Sound}
 use Rattle.desk_days.specs.Story.{SteppedEvent, slotHolding, emptyDay}
@@ -117,7 +116,7 @@ module _ (l : Ledger) (m : List ℕ) (e : SteppedEvent) (p : Passed (l .sheet) e
   open-after : after (emptyDay l m) (message opening) ≡ holding (openedBy (e .head))
   open-after =
       let h : headIn opening ≡ e .head = open-head (e .head) fits in
-      after-opened (emptyDay l m) opening (opened l m emptyDesk opening open-taken refl) ∙
+      after-opened (emptyDay l m) opening open-taken refl ∙
       (λ i. record { ledger = l; map = markedWith m (h i .number); desk = set emptyDesk 0 (openedBy (h i)) })
 
   -- a step
@@ -165,7 +164,7 @@ module _ (l : Ledger) (m : List ℕ) (e : SteppedEvent) (p : Passed (l .sheet) e
 
     step-after : after (holding x) (message stepping) ≡ holding (steppedBy x st)
     step-after =
-        after-stepped (holding x) stepping (stepped l (markedWith m v) (deskWith x) stepping step-taken refl) ∙
+        after-stepped (holding x) stepping step-taken refl ∙
         (λ i. record { ledger = l; map = markedWith m v; desk = set (deskWith x) (found-at i) (steppedBy (found-slot i) (tells-it i)) })
 
   -- all its steps, one after the other
@@ -236,7 +235,7 @@ module _ (l : Ledger) (m : List ℕ) (e : SteppedEvent) (p : Passed (l .sheet) e
 
     close-after : after (holding (slotHolding e)) (message closing) ≡ closedAt
     close-after =
-        after-closed (holding (slotHolding e)) closing (closed l (markedWith m v) (deskWith (slotHolding e)) closing close-taken refl) ∙
+        after-closed (holding (slotHolding e)) closing close-taken refl ∙
         (λ i.
         record {
           ledger = added l (eventVerdict (l .sheet) (closed-slot i .head) (closed-slot i .last) (closed-slot i .figures));

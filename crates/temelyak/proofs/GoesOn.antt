@@ -37,7 +37,7 @@ use Rattle.slot.specs.declared.Slot.{Slot}
 use Rattle.desk_rules.specs.Rules.{lookAt}
 use Rattle.desk_rules.specs.Plan.{ledgerClosed}
 use Rattle.desk_rules.specs.Serve.{messageAnswer, ledgerServed}
-use Rattle.desk_rules.proofs.MessageLaws.{opened, stepped, closed, refused-same, accepted-kind}
+use Rattle.desk_rules.proofs.MessageLaws.{close-right, opened, stepped, closed, refused-same, accepted-kind}
 use Rattle.c_words.specs.Words.{wordsFit, ledgerIn, wordsOf, Fitting}
 use Rattle.c_words.proofs.WordsBack.{words-back, held-fits}
 use Rattle.c_words.proofs.LentLaws.{accepted-is}
@@ -157,7 +157,7 @@ module _ (l : Ledger) (m : List ℕ) (d : List Slot) (s : List ℕ) (f : Fitting
   closed-fits : messageAnswer l m d s ≡ 0 → kindOf s ≡ 18 → Fitting (ledgerClosed (lookAt d s) l)
   unfolding eventVerdict
   closed-fits a k =
-      let c = closed l m d s a k in
+      let c = close-right l m d s a k in
       let slot = lookAt d s .slot in
       let short = sound-short l (sound-of l m (c .ledger-sound)) in
       added-fits l (eventVerdict (l .sheet) (slot .head) (slot .last) (slot .figures)) f (sheet-of l f) (omega (arith, c .room)) (omega (arith, c .room, short, one-at-most (isShort (slot .head .t0) (slot .last))))
