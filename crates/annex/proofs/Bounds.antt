@@ -7,6 +7,7 @@ use native.Mathlib.Nat.{mul-le-mul-right}
 use native.Mathlib.Omega.{arith}
 use Rattle.base.specs.Lists.{largest, All}
 use Rattle.codes.specs.Codes.{levels}
+use Rattle.codes.specs.Ranges.{latest, mostCustomers}
 use Rattle.annex.specs.declared.Course.{Course}
 use Rattle.annex.specs.declared.Simple.{Simple}
 use Rattle.annex.specs.declared.Step.{Step}
@@ -44,44 +45,44 @@ module _ (c : Course) (s : Step) (t : Timely c) (order : c .last ≤ s .time) wh
       }
 
   -- a step in order, at 600,000 at the latest, may follow
-  pub timely-ready : s .time ≤ 600000 → Ready c s
+  pub timely-ready : s .time ≤ latest → Ready c s
   timely-ready ends = record { room = record { nn = omega arith; vn = omega arith; vvn = omega arith }; order = order; ends = ends }
 
 -- a simple event in order, with counts of at most 10,000,000, adds no more to a level than one event may
-pub simple-within : (e : Simple) → InOrder e → Few 10000000 (e .n1) → Few 10000000 (e .n2) → (h : ℕ) → h < levels → Within (simpleFigures e) h
+pub simple-within : (e : Simple) → InOrder e → Few mostCustomers (e .n1) → Few mostCustomers (e .n2) → (h : ℕ) → h < levels → Within (simpleFigures e) h
 simple-within e o few1 few2 h l Off = omega (arith, simple-customers e h l, few-at few1 h l)
 simple-within e o few1 few2 h l Halves =
     let a = getD (e .n1) h 0 in
     let b = getD (e .n2) h 0 in
-    let p : a ≤ 10000000 = few-at few1 h l in
-    let q : b ≤ 10000000 = few-at few2 h l in
+    let p : a ≤ mostCustomers = few-at few1 h l in
+    let q : b ≤ mostCustomers = few-at few2 h l in
     let one : 2 * a * (e .t1 - e .t0) ≤ 20000000 * (e .t1 - e .t0) = mul-le-mul-right (e .t1 - e .t0) (omega arith) in
     let two : (a + b) * (e .t2 - e .t1) ≤ 20000000 * (e .t2 - e .t1) = mul-le-mul-right (e .t2 - e .t1) (omega arith) in
     let three : 2 * b * (e .t3 - e .t2) ≤ 20000000 * (e .t3 - e .t2) = mul-le-mul-right (e .t3 - e .t2) (omega arith) in
     omega (arith, simple-halves e h l)
 
 module _ (h : ℕ) (l : h < levels) where
-  largest-within : (ss : List Step) → All (λ (s : Step). Few 10000000 (s .counts)) ss → largest (countsOf h ss) ≤ 10000000
+  largest-within : (ss : List Step) → All (λ (s : Step). Few mostCustomers (s .counts)) ss → largest (countsOf h ss) ≤ mostCustomers
   largest-within [] few = omega arith
   largest-within (s ∷ ss) few = omega (arith, few-at (few .0) h l, largest-within ss (few .1))
 
   weighed-within :
       (before : ℕ) (ss : List Step) →
-      before ≤ 600000 →
+      before ≤ latest →
       Ordered before ss →
-      All (λ (s : Step). Few 10000000 (s .counts)) ss →
-      weighed h before ss + 10000000 * before ≤ 6000000000000
+      All (λ (s : Step). Few mostCustomers (s .counts)) ss →
+      weighed h before ss + mostCustomers * before ≤ 6000000000000
   weighed-within before [] p o few = omega arith
   weighed-within before (s ∷ ss) p o few =
-      let one : getD (s .counts) h 0 * (s .time - before) ≤ 10000000 * (s .time - before) = mul-le-mul-right (s .time - before) (few-at (few .0) h l) in
+      let one : getD (s .counts) h 0 * (s .time - before) ≤ mostCustomers * (s .time - before) = mul-le-mul-right (s .time - before) (few-at (few .0) h l) in
       omega (arith, weighed-within (s .time) ss (o .1) (o .2) (few .1))
 
 -- nor does a stepped one, begun by 600,000, with its steps in order and such counts
 pub stepped-within :
     (t0 : ℕ) (ss : List Step) →
-    t0 ≤ 600000 →
+    t0 ≤ latest →
     Ordered t0 ss →
-    All (λ (s : Step). Few 10000000 (s .counts)) ss →
+    All (λ (s : Step). Few mostCustomers (s .counts)) ss →
     (h : ℕ) →
     h < levels →
     Within (steppedFigures t0 ss) h

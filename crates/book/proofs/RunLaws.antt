@@ -15,7 +15,7 @@ use Rattle.records.proofs.TakeLaws as all
 use Rattle.records.proofs.TakeLaws.{one-at-most}
 use Rattle.records.proofs.RunLaws as run
 use Rattle.codes.specs.Codes.{rows}
-use Rattle.used_numbers.specs.Marks.{markedWith}
+use Rattle.used_numbers.specs.Marks.{markedWith, mapSize}
 use Rattle.used_numbers.proofs.MarkLaws.{markedWith-size}
 use Rattle.verdict.specs.declared.Verdict.{Verdict}
 use Rattle.record.specs.Verdict.{verdictOf}
@@ -32,8 +32,8 @@ use Rattle.ledger.proofs.SoundLaws.{verdict-fits}
 use Rattle.book.specs.Book.{BookState, starting, takeRecord, afterBook, passOf, readOf, mapRead}
 
 -- a sound ledger with a map of the right size is not refused 1
-pub sound-taken : (l : Ledger) (m : List ℕ) → soundLedger l ≡ true → length m ≡ 8192 → unsound l m ≡ false
-sound-taken l m s z = or-both (not (eqb (length m) 8192)) (not (soundLedger l)) (ap not (eq-eqb (length m) 8192 z)) (ap not s)
+pub sound-taken : (l : Ledger) (m : List ℕ) → soundLedger l ≡ true → length m ≡ mapSize → unsound l m ≡ false
+sound-taken l m s z = or-both (not (eqb (length m) mapSize)) (not (soundLedger l)) (ap not (eq-eqb (length m) mapSize z)) (ap not s)
 
 -- the state after a record, by its verdict
 pub record-judged :
@@ -71,7 +71,7 @@ refused-below l m book = omega (arith, all.refused-below takeRecord refusedIn an
 pub record Going (l₀ : Ledger) (m₀ book : List ℕ) (l : Ledger) (m : List ℕ) (r : ℕ) (stand : Stand) : Type 0 where
   pub on : run.Going takeRecord refusedIn (starting l₀ m₀) book (record { ledger = l; map = m; refused = r }) stand
   pub sound : soundLedger l ≡ true
-  pub size : length m ≡ 8192
+  pub size : length m ≡ mapSize
   pub rows-there : length (l .rows) ≡ rows
 
 module _ (l₀ : Ledger) (m₀ book : List ℕ) where
@@ -80,7 +80,7 @@ module _ (l₀ : Ledger) (m₀ book : List ℕ) where
       (stand : Stand) →
       stand ≡ standOf (placeAt book 0) 0 →
       soundLedger l₀ ≡ true →
-      length m₀ ≡ 8192 →
+      length m₀ ≡ mapSize →
       length (l₀ .rows) ≡ rows →
       Going l₀ m₀ book l₀ m₀ 0 stand
   going-begins stand e s z n =

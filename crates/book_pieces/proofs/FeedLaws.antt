@@ -13,6 +13,7 @@ use Rattle.wire.specs.Cut.{recordsOf, stopFrom}
 use Rattle.records.specs.Pieces.{mostRefused, deadRest, moved, Held, heldAfter, bufferOn}
 use Rattle.records.proofs.AnswerLaws.{piece-clear}
 use Rattle.records.proofs.HeldLaws.{on-dead, on-more}
+use Rattle.used_numbers.specs.Marks.{mapSize}
 use Rattle.ledger.specs.Sound.{soundLedger}
 use Rattle.book.specs.Book.{BookState, starting, takeRecord, takeAll, afterBook}
 use Rattle.book.proofs.RunLaws.{refused-below}
@@ -48,15 +49,15 @@ module _ (f : Feed) (m b : List ℕ) (filled : ℕ) where
         )
 
     -- what is not refused
-    clear-piece : (eqb (length m) 8192 && soundLedger (f .ledger)) ≡ true × (f .refused ≤ mostRefused) × (filled ≤ length b)
-    clear-piece = piece-clear (eqb (length m) 8192 && soundLedger (f .ledger)) (f .refused) (length b) filled a
+    clear-piece : (eqb (length m) mapSize && soundLedger (f .ledger)) ≡ true × (f .refused ≤ mostRefused) × (filled ≤ length b)
+    clear-piece = piece-clear (eqb (length m) mapSize && soundLedger (f .ledger)) (f .refused) (length b) filled a
 
     -- where a piece is not refused: the map has its size, the ledger is sound, the refused are few enough, the bytes told are in the buffer
-    pub map-long : length m ≡ 8192
-    map-long = eqb-true (length m) 8192 (and-left (eqb (length m) 8192) (soundLedger (f .ledger)) (clear-piece .0))
+    pub map-long : length m ≡ mapSize
+    map-long = eqb-true (length m) mapSize (and-left (eqb (length m) mapSize) (soundLedger (f .ledger)) (clear-piece .0))
 
     pub ledger-sound : soundLedger (f .ledger) ≡ true
-    ledger-sound = and-right (eqb (length m) 8192) (soundLedger (f .ledger)) (clear-piece .0)
+    ledger-sound = and-right (eqb (length m) mapSize) (soundLedger (f .ledger)) (clear-piece .0)
 
     pub refused-few : f .refused ≤ mostRefused
     refused-few = clear-piece .1

@@ -15,6 +15,7 @@ use Rattle.records.specs.Records.{isBroken}
 use Rattle.records.specs.Pieces.{mostRefused, Pieces, beginning, fed, fedAll}
 use Rattle.records.proofs.AnswerLaws.{end-goes-on}
 use Rattle.records.proofs.HeldLaws.{Holding, held-on, held-whole, held-room, stays-fit}
+use Rattle.used_numbers.specs.Marks.{mapSize}
 use Rattle.ledger.specs.declared.Ledger.{Ledger}
 use Rattle.ledger.specs.Sound.{soundLedger}
 use Rattle.ledger.specs.Take.{unsound}
@@ -51,7 +52,7 @@ module _ (f : Feed) (m b : List ℕ) (filled : ℕ) (u : fedAnswer f m b filled 
   -- after a call that was answered 0 the ledger is sound and the map and the buffer have their sizes: a next one is refused only for its count of refused
   -- records (252) or for a `filled` past the buffer (253), and the end only for the count
   abbrev Fit : Fed → List ℕ → List ℕ → Type 0
-  Fit r m₁ b₁ = (soundLedger (r .feed .ledger) ≡ true) × (length m₁ ≡ 8192) × (length b₁ ≡ length b)
+  Fit r m₁ b₁ = (soundLedger (r .feed .ledger) ≡ true) × (length m₁ ≡ mapSize) × (length b₁ ≡ length b)
 
   pub feed-stays-fit : Fit (fedOf f m b filled) (mapFed f m b filled) (bufferFed f m b filled)
   unfolding takeRecord
@@ -61,7 +62,7 @@ module _ (f : Feed) (m b : List ℕ) (filled : ℕ) (u : fedAnswer f m b filled 
       coe 0 1 (i. Fit (e .0 i) (e .1 i) (e .2 i)) (kept .0 .0, kept .0 .1, kept .1)
     where
       Sound : BookState → Type 0
-      Sound st = (soundLedger (st .ledger) ≡ true) × (length (st .map) ≡ 8192)
+      Sound st = (soundLedger (st .ledger) ≡ true) × (length (st .map) ≡ mapSize)
 
       sound-too : (st : BookState) (s : List ℕ) → Sound st → Sound (takeRecord st s)
       sound-too st s (e, z) = (sound-record st s e, map-size-kept (st .ledger) (st .map) s ∙ z)
@@ -92,7 +93,7 @@ module _
     ledger-whole : unsound l m ≡ false → soundLedger (f .ledger) ≡ true
     ledger-whole u =
         ap (λ (st : BookState). soundLedger (st .ledger)) state-whole ∙
-        sound-run (starting l m) (recordsOf (joined ps)) (not-false (soundLedger l) (or-right (not (eqb (length m) 8192)) (not (soundLedger l)) u))
+        sound-run (starting l m) (recordsOf (joined ps)) (not-false (soundLedger l) (or-right (not (eqb (length m) mapSize)) (not (soundLedger l)) u))
 
     -- begun from a sound ledger and a map of its size, and with at most 2^62 refused, the feed ends as the reading of the whole book does
     pub finish-whole : f .refused ≤ mostRefused → unsound l m ≡ false → finishedOf f ≡ readOf l m (joined ps)

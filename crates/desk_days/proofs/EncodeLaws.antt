@@ -14,6 +14,7 @@ use Rattle.base.specs.Lists.{All, any}
 use Rattle.base.proofs.FirstLaws.{unclear}
 use Rattle.base.proofs.TestLaws.{or-both}
 use Rattle.codes.specs.Codes.{levelOf}
+use Rattle.codes.specs.Ranges.{mostEvents}
 use Rattle.annex.specs.declared.Step.{Step}
 use Rattle.annex.specs.Stepped.{lastTime, steppedFigures}
 use Rattle.annex.specs.Times.{minutesIn}
@@ -64,7 +65,7 @@ abbrev pub verdictFor : Sheet → SteppedEvent → Verdict
 verdictFor sheet e = eventVerdict sheet (e .head) (lastTime (e .head .t0) (e .steps)) (steppedFigures (e .head .t0) (e .steps))
 
 module _ (l : Ledger) (m : List ℕ) (e : SteppedEvent) (p : Passed (l .sheet) e) (u : unsound l m ≡ false) (some : length (e .steps) ≢ 0)
-    (new : marked m (e .head .number) ≡ false) (room : l .events < 65535) where
+    (new : marked m (e .head .number) ≡ false) (room : l .events < mostEvents) where
   no-rule : Clear (takeRules l m (recordOf e))
   no-rule =
       let n : ℕ = length (e .steps) in
@@ -86,7 +87,7 @@ module _ (l : Ledger) (m : List ℕ) (e : SteppedEvent) (p : Passed (l .sheet) e
       let r11 : countTooLarge 3 (recordOf e) (l .sheet) ≡ false = ap (any (λ (st : Step). exceeding (l .sheet .totals) (st .counts))) ss ∙ p .within in
       let r12 : countTooHigh 3 (recordOf e) ≡ false = (λ i. any (λ (st : Step). aboveLevel (levelOf (h i .voltage)) (st .counts)) (ss i)) ∙ p .level in
       let r14 : alreadyMarked 3 (recordOf e) m ≡ false = ap (λ (x : Head). marked m (x .number)) h ∙ new in
-      let r15 : ledgerFull 3 (l .events) ≡ false = lt-leb 65535 (l .events) room in
+      let r15 : ledgerFull 3 (l .events) ≡ false = lt-leb mostEvents (l .events) room in
       (u, (ap not (stepped-framed (e .head) (e .steps) few), (refl, (r4, (ap not (p .there), (refl, (r7, (r10, (r11, (r12, (refl, (r14, (r15, tt)))))))))))))
 
   -- its record is accepted

@@ -10,6 +10,7 @@ use lib.Dec.{eqb}
 use native.Mathlib.Nat.{le-refl}
 use Rattle.base.specs.Lists.{All}
 use Rattle.records.proofs.TakeLaws.{take-all-append}
+use Rattle.codes.specs.Ranges.{mostEvents}
 use Rattle.annex.specs.declared.Step.{Step}
 use Rattle.used_numbers.specs.Marks.{marked, markedWith, mapSize}
 use Rattle.used_numbers.proofs.MarkLaws.{markedWith-same, markedWith-other}
@@ -328,7 +329,7 @@ module _ (l₀ : Ledger) (m₀ : List ℕ) (ds : List Deed) (st : State) (k : Ke
               }
 
     -- a close
-    module _ (sound : unsound (st .ledger) (st .map) ≡ false) (some : slotOf n (st .desk) .steps ≢ 0) (room : st .ledger .events < 65535) where
+    module _ (sound : unsound (st .ledger) (st .map) ≡ false) (some : slotOf n (st .desk) .steps ≢ 0) (room : st .ledger .events < mostEvents) where
       abbrev closed : State
       closed =
           record {

@@ -9,7 +9,7 @@ use native.Mathlib.Omega.{arith}
 use Rattle.codes.specs.Codes.{rows, rowOf, levelOf, causes, causeListed}
 use Rattle.annex.specs.Figures.{customers, halfMinutes, withStep}
 use Rattle.annex.specs.Times.{minutesIn, isShort}
-use Rattle.used_numbers.specs.Marks.{marked, marking, markedWith}
+use Rattle.used_numbers.specs.Marks.{marked, marking, markedWith, mapSize}
 use Rattle.verdict.specs.Verdict.{eventVerdict}
 use Rattle.record.specs.Verdict.{recordAnswer, verdictOf}
 use Rattle.ledger.specs.declared.Ledger.{Ledger}
@@ -56,10 +56,10 @@ sevenAgain =
 
 -- lent with a map in which no number is marked, and with one in which 7 is
 abbrev pub unmarkedDay : State
-unmarkedDay = record { ledger = year; map = replicate 8192 0; desk = seven ∷ replicate 31 freeSlot }
+unmarkedDay = record { ledger = year; map = replicate mapSize 0; desk = seven ∷ replicate 31 freeSlot }
 
 abbrev pub markedDay : State
-markedDay = record { ledger = year; map = set (replicate 8192 0) 0 128; desk = seven ∷ replicate 31 freeSlot }
+markedDay = record { ledger = year; map = set (replicate mapSize 0) 0 128; desk = seven ∷ replicate 31 freeSlot }
 
 -- step 1 of outage 7: 50 customers until minute 130; its close after one step; an open of 7 at minute 110; a stepped book event 7
 abbrev pub step-1 : Arrival

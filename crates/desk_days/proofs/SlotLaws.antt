@@ -13,6 +13,7 @@ use Rattle.base.specs.Lists.{All}
 use Rattle.base.proofs.TestLaws.{and-both, or-left, or-right, or-both}
 use Rattle.base.proofs.ChainLaws.{andOf}
 use Rattle.codes.specs.Codes.{levels, levelOf}
+use Rattle.codes.specs.Ranges.{latest, mostCustomers}
 use Rattle.annex.specs.declared.Figures.{Figures}
 use Rattle.annex.specs.declared.Step.{Step}
 use Rattle.annex.specs.Figures.{nothing, customersAt, halvesAt, withStep}
@@ -37,9 +38,9 @@ open-of :
     headListed (s .head) ≡ true →
     s .head .t0 < 527040 →
     s .head .t0 ≤ s .last →
-    s .last ≤ 600000 →
+    s .last ≤ latest →
     s .steps ≤ 64 →
-    ((h : ℕ) → h < levels → customersAt (s .figures) h ≤ 10000000) →
+    ((h : ℕ) → h < levels → customersAt (s .figures) h ≤ mostCustomers) →
     ((h : ℕ) → h < levels → halvesAt (s .figures) h ≤ 2 * customersAt (s .figures) h * (s .last - s .head .t0)) →
     figuresAbove (levelOf (s .head .voltage)) (s .figures) ≡ false →
     (ltb 0 (s .steps) || (eqb (s .last) (s .head .t0) && noCustomers (s .figures))) ≡ true →
@@ -47,7 +48,7 @@ open-of :
 unfolding openSound
 open-of s listed early begun ended few most brief below unstepped =
     each-joins (headListed (s .head))
-    (ltb (s .head .t0) 527040 ∷ leb (s .head .t0) (s .last) ∷ leb (s .last) 600000 ∷ leb (s .steps) 64 ∷ within 0 ∷ within 1 ∷ within 2
+    (ltb (s .head .t0) 527040 ∷ leb (s .head .t0) (s .last) ∷ leb (s .last) latest ∷ leb (s .steps) 64 ∷ within 0 ∷ within 1 ∷ within 2
     ∷ not (figuresAbove (levelOf (s .head .voltage)) (s .figures))
     ∷ (ltb 0 (s .steps) || (eqb (s .last) (s .head .t0) && noCustomers (s .figures))) ∷ []) (
       listed,
@@ -74,7 +75,7 @@ open-of s listed early begun ended few most brief below unstepped =
 
     level : (h : ℕ) → h < levels → within h ≡ true
     level h l =
-        and-both (leb (customersAt (s .figures) h) 10000000) (leb (halvesAt (s .figures) h) (2 * customersAt (s .figures) h * (s .last - s .head .t0)))
+        and-both (leb (customersAt (s .figures) h) mostCustomers) (leb (halvesAt (s .figures) h) (2 * customersAt (s .figures) h * (s .last - s .head .t0)))
         (le-leb _ _ (most h l)) (le-leb _ _ (brief h l))
 
 -- an outage that begins
@@ -156,12 +157,12 @@ module _ (level : ℕ) (f : Figures) (counts : List ℕ) (minutes : ℕ) where
       (or-right (ltb level 1 && ltb 0 (getD counts 1 0)) (ltb level 2 && ltb 0 (getD counts 2 0)) q))
 
 -- an open slot, a step later
-module _ (s : Slot) (st : Step) (o : openSound s ≡ true) (before : s .last ≤ st .time) (few : Few 10000000 (st .counts)) where
+module _ (s : Slot) (st : Step) (o : openSound s ≡ true) (before : s .last ≤ st .time) (few : Few mostCustomers (st .counts)) where
   abbrev customers-then : (h : ℕ) → h < levels → customersAt (steppedBy s st .figures) h ≡ max (customersAt (s .figures) h) (getD (st .counts) h 0)
   customers-then = step-customers (s .figures) (st .counts) (st .time - s .last)
 
-  stepped-most : (h : ℕ) → h < levels → customersAt (steppedBy s st .figures) h ≤ 10000000
-  stepped-most h l = subst (λ c. c ≤ 10000000) (sym (customers-then h l)) (max-le (open-customers s o h l) (few-at few h l))
+  stepped-most : (h : ℕ) → h < levels → customersAt (steppedBy s st .figures) h ≤ mostCustomers
+  stepped-most h l = subst (λ c. c ≤ mostCustomers) (sym (customers-then h l)) (max-le (open-customers s o h l) (few-at few h l))
 
   stepped-brief : (h : ℕ) → h < levels → halvesAt (steppedBy s st .figures) h ≤ 2 * customersAt (steppedBy s st .figures) h * (st .time - s .head .t0)
   stepped-brief h l =
@@ -173,7 +174,7 @@ module _ (s : Slot) (st : Step) (o : openSound s ≡ true) (before : s .last ≤
   -- it stays sound, where it then has at most 64 steps, the time is at most 600,000 and no count is above the event's level
   pub stepped-open :
       s .steps + 1 ≤ 64 →
-      st .time ≤ 600000 →
+      st .time ≤ latest →
       aboveLevel (levelOf (s .head .voltage)) (st .counts) ≡ false →
       openSound (steppedBy s st) ≡ true
   stepped-open count ends below =
@@ -184,7 +185,7 @@ module _ (s : Slot) (st : Step) (o : openSound s ≡ true) (before : s .last ≤
 
   pub stepped-sound :
       s .steps + 1 ≤ 64 →
-      st .time ≤ 600000 →
+      st .time ≤ latest →
       aboveLevel (levelOf (s .head .voltage)) (st .counts) ≡ false →
       slotSound (steppedBy s st) ≡ true
   stepped-sound count ends below = open-is-sound (steppedBy s st) (stepped-open count ends below)

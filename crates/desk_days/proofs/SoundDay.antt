@@ -9,6 +9,7 @@ use lib.Dec.{eqb}
 use native.Mathlib.Omega.{arith}
 use borrow.Author.Tests.{eqb-true, eq-eqb, not-false}
 use Rattle.base.proofs.TestLaws.{or-left, or-right, or-both}
+use Rattle.codes.specs.Ranges.{mostCustomers}
 use Rattle.annex.specs.Times.{minutesIn}
 use Rattle.annex.specs.Inside.{Few}
 use Rattle.used_numbers.specs.Marks.{mapSize}
@@ -111,7 +112,7 @@ module _ (st : State) (s : List ℕ) (sound : Sound st) where
       let place = placeOf (numberIn s) desk-now in
       let slot = slotOf (numberIn s) desk-now in
       let timely = in-time (slot .last) (stepIn s .time) (o .timely) in
-      let few : Few 10000000 (stepIn s .counts) =
+      let few : Few mostCustomers (stepIn s .counts) =
       within-totals (range-few (st .ledger .sheet) (sound-range (st .ledger) (sound .ledger) (o .sheet))) (stepIn s .counts) (o .within) in
       record {
         ledger = sound .ledger;

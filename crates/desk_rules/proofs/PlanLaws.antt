@@ -9,6 +9,7 @@ use Rattle.base.specs.First.{first, Foremost, NoRule}
 use Rattle.base.proofs.FirstLaws.{clear, clear-at, then}
 use Rattle.base.proofs.TestLaws.{Tested, holds, fails, test, or-left, or-right}
 use Rattle.wire.specs.Frame.{framed, kindOf}
+use Rattle.codes.specs.Ranges.{latest, mostEvents}
 use Rattle.annex.specs.declared.Figures.{Figures}
 use Rattle.fields.specs.declared.Sheet.{Sheet}
 use Rattle.fields.specs.declared.Head.{Head}
@@ -143,7 +144,7 @@ module _ (k : Look) (l : Ledger) (m s : List ℕ) where
   close-answer e = rw e
 
   -- an accepted step's time is in order
-  pub step-timely : answerAt 17 k l m s ≡ 0 → (k .slot .last ≤ stepIn s .time) × (stepIn s .time ≤ 600000)
+  pub step-timely : answerAt 17 k l m s ≡ 0 → (k .slot .last ≤ stepIn s .time) × (stepIn s .time ≤ latest)
   step-timely e = in-time (k .slot .last) (stepIn s .time) (answered-rules 17 k 0 l m s e 10)
 
 -- an accepted event's verdict answers 0
@@ -161,7 +162,7 @@ pub close-fits :
 close-fits k l m s sound fine e =
     let c = answered-rules 18 k 0 l m s e in
     let there : l .sheet .there ≡ true = not-false _ (c 5) in
-    let room : l .events < 65535 = leb-false 65535 (l .events) (c 15) in
+    let room : l .events < mostEvents = leb-false mostEvents (l .events) (c 15) in
     let count = c 9 in
     let some : ordinalIn s ≡ 0 → ⊥ = eqb-false _ _ (or-left (eqb (ordinalIn s) 0) _ count) in
     let taken : ordinalIn s ≡ k .slot .steps = eqb-true _ _ (not-false _ (or-right (eqb (ordinalIn s) 0) _ count)) in

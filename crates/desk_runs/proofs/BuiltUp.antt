@@ -13,6 +13,7 @@ use Rattle.base.specs.Lists.{All, Bytes}
 use Rattle.base.proofs.TestLaws.{or-left, or-right}
 use Rattle.base.proofs.FirstLaws.{clear-at}
 use Rattle.wire.specs.Frame.{framed, kindOf}
+use Rattle.codes.specs.Ranges.{mostEvents}
 use Rattle.annex.specs.Times.{minutesIn}
 use Rattle.used_numbers.specs.Marks.{marked, markedWith}
 use Rattle.fields.specs.Fields.{headIn, stepsFrom, stepsIn, stepCount}
@@ -89,8 +90,8 @@ module _ (l : Ledger) (m s : List ℕ) (b : Bytes s) (k : kindOf s ≡ 3) (a : a
   stepped-new : marked m (headIn s .number) ≡ false
   stepped-new = no-rule 14
 
-  stepped-room : l .events < 65535
-  stepped-room = leb-false 65535 (l .events) (no-rule 15)
+  stepped-room : l .events < mostEvents
+  stepped-room = leb-false mostEvents (l .events) (no-rule 15)
 
   stepped-adds : added l (verdictFor (l .sheet) (steppedEventIn s)) ≡ ledgerAfter l m s
   stepped-adds = sym (entry-ledger l m s a ∙ ap (λ kind. added l (acceptedAt kind s (l .sheet))) k)

@@ -11,6 +11,7 @@ use borrow.Author.Tests.{eq-eqb}
 use Rattle.base.specs.Lists.{All, any}
 use Rattle.base.proofs.TestLaws.{or-left, or-right}
 use Rattle.codes.specs.Codes.{levelOf}
+use Rattle.codes.specs.Ranges.{mostEvents}
 use Rattle.annex.specs.declared.Step.{Step}
 use Rattle.annex.specs.Times.{minutesIn}
 use Rattle.used_numbers.specs.Marks.{marked, markedWith}
@@ -66,7 +67,7 @@ none-open v n = missing v emptyDesk (λ i _ q. n (sym q ∙ ap numberAt (empty-a
 -- ---- an event that passes the book's rules, under a ledger that is sound and has room, and a map in which its number is not marked
 
 module _ (l : Ledger) (m : List ℕ) (e : SteppedEvent) (p : Passed (l .sheet) e) (u : unsound l m ≡ false) (some : length (e .steps) ≢ 0)
-    (new : marked m (e .head .number) ≡ false) (room : l .events < 65535) where
+    (new : marked m (e .head .number) ≡ false) (room : l .events < mostEvents) where
   abbrev v : ℕ
   v = e .head .number
 

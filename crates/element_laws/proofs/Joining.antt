@@ -14,7 +14,7 @@ use Rattle.base.proofs.SumLaws.{sum-append}
 use Rattle.wire.specs.Cut.{recordsOf}
 use Rattle.element_row.specs.declared.Row.{Row}
 use Rattle.element_table.specs.declared.Table.{Table}
-use Rattle.element_row.specs.Row.{noRow}
+use Rattle.element_row.specs.Row.{noRow, mostOutages}
 use Rattle.element_table.specs.Table.{begun, periodWithin, seenAs}
 use Rattle.element_table.proofs.RefusedLaws.{begun-rows}
 use Rattle.element_table.proofs.SoundLaws.{begun-sound}
@@ -89,7 +89,7 @@ module _ (period : ℕ) (fs gs : List (List ℕ)) (within : periodWithin period 
         let none : told (rowIn (tableOf period gs) row) ≡ 0 = ap (λ n. when (ltb 0 n)) e in
         omega (arith, none, second-told, of-first .1 .once row l, sum-append (stocksOf row) ss ts)
 
-    room : rowIn start row .outages + total (outagesOf row) (ss ++ ts) ≤ 65535
+    room : rowIn start row .outages + total (outagesOf row) (ss ++ ts) ≤ mostOutages
     room =
         omega (
           arith,

@@ -25,7 +25,7 @@ use Rattle.element_table.specs.declared.Table.{Table}
 use Rattle.element_table.specs.Table.{rowOr, soundTable}
 use Rattle.element_rules.specs.Fields.{codeIn, startIn, endIn, unitIn, amountIn}
 use Rattle.element_table.specs.Rules.{rowNamed, lengthWrong, notListed, timeWrong, rules, rulesAt, answerOf}
-use Rattle.element_row.specs.Row.{withOutage, withStock}
+use Rattle.element_row.specs.Row.{withOutage, withStock, mostOutages}
 use Rattle.element_table.specs.Take.{tableAfter}
 use Rattle.element_table.proofs.BoundLaws.{sound-row}
 use Rattle.element_table.proofs.AnswerLaws.{accepted-clear, clear-accepted, accepted-kind}
@@ -84,7 +84,7 @@ one-more r row s ss = same-row _ _ (omega arith) (omega arith) (omega arith) (om
 -- room for one record
 record Room (t : Table) (s : List ℕ) : Type 0 where
   once : (row : ℕ) → row < 62 → told (rowOr (t .rows) row) + stocksOf row s ≤ 1
-  room : (row : ℕ) → row < 62 → rowOr (t .rows) row .outages + outagesOf row s ≤ 65535
+  room : (row : ℕ) → row < 62 → rowOr (t .rows) row .outages + outagesOf row s ≤ mostOutages
 
 -- a table that takes outages and stocks: sound, of 62 rows, with the sheet seen
 pub record Ready (t : Table) : Type 0 where
@@ -116,9 +116,9 @@ module _ (t : Table) (s : List ℕ) (ready : Ready t) where
           rw n (omega (arith, none))
       once row (neither e o n) = rw n (omega (arith, when-few (ltb 0 (rowOr (t .rows) row .stock))))
 
-      room : (row : ℕ) → Speaks row s → rowOr (t .rows) row .outages + outagesOf row s ≤ 65535
+      room : (row : ℕ) → Speaks row s → rowOr (t .rows) row .outages + outagesOf row s ≤ mostOutages
       room row (outage k e o n) =
-          let few : rowNamed t s .outages < 65535 = exactly-outage t s k .0 a .room in
+          let few : rowNamed t s .outages < mostOutages = exactly-outage t s k .0 a .room in
           let same : rowNamed t s .outages ≡ rowOr (t .rows) row .outages = ap (λ j. rowOr (t .rows) j .outages) e in
           rw o (omega (arith, few, same))
       room row (stock k e o n) = rw o (omega (arith, sound-row t (ready .sound) row .outages))
@@ -146,7 +146,7 @@ module _ (t : Table) (s : List ℕ) (ready : Ready t) where
                     ap (λ j. notListed j s) (sym k) ∙ fit .listed,
                     (
                       ap (λ j. timeWrong j s) (sym k) ∙ fit .timely,
-                      (lt-leb 65535 (rowNamed t s .outages) (omega (arith, there .room (rowOf (codeIn s)) l, one)), tt),
+                      (lt-leb mostOutages (rowNamed t s .outages) (omega (arith, there .room (rowOf (codeIn s)) l, one)), tt),
                     ),
                   ),
                 ),

@@ -10,7 +10,7 @@ use borrow.Author.Tests.{leb-true, le-leb, le-ltb, ltb-false, eqb-true, eq-eqb}
 use Rattle.base.proofs.TestLaws.{Tested, holds, fails, test, and-both, or-other}
 use Rattle.base.proofs.ChainLaws.{each-holds}
 use Rattle.element_row.specs.declared.Row.{Row}
-use Rattle.element_row.specs.Row.{rowWithin, RowSound}
+use Rattle.element_row.specs.Row.{rowWithin, RowSound, longest, mostOutages}
 
 -- the test of a row passes exactly where the row is within each of its bounds
 pub row-exactly : (r : Row) → (rowWithin r ≡ true) ↔ RowSound r
@@ -24,7 +24,7 @@ row-exactly r = (there, back)
 
     there : rowWithin r ≡ true → RowSound r
     there e =
-        let k = each-holds (leb (r .outages) 65535) (leb (r .minutes) (r .outages * 600000) ∷ leb (r .stock) 2 ∷ told ∷ []) e in
+        let k = each-holds (leb (r .outages) mostOutages) (leb (r .minutes) (r .outages * longest) ∷ leb (r .stock) 2 ∷ told ∷ []) e in
         record {
           outages = leb-true _ _ (k .0);
           minutes = leb-true _ _ (k .1 .0);
@@ -40,8 +40,8 @@ row-exactly r = (there, back)
 
     back : RowSound r → rowWithin r ≡ true
     back s =
-        and-both (leb (r .outages) 65535 && leb (r .minutes) (r .outages * 600000) && leb (r .stock) 2) told
-        (and-both (leb (r .outages) 65535 && leb (r .minutes) (r .outages * 600000)) (leb (r .stock) 2)
-        (and-both (leb (r .outages) 65535) (leb (r .minutes) (r .outages * 600000)) (le-leb _ _ (s .outages)) (le-leb _ _ (s .minutes)))
+        and-both (leb (r .outages) mostOutages && leb (r .minutes) (r .outages * longest) && leb (r .stock) 2) told
+        (and-both (leb (r .outages) mostOutages && leb (r .minutes) (r .outages * longest)) (leb (r .stock) 2)
+        (and-both (leb (r .outages) mostOutages) (leb (r .minutes) (r .outages * longest)) (le-leb _ _ (s .outages)) (le-leb _ _ (s .minutes)))
         (le-leb _ _ (s .stock)))
         (tells (test (ltb 0 (r .stock))) (s .amount))

@@ -11,9 +11,11 @@ use borrow.Author.Tests.{ne-eqb, eqb-true, eqb-false, leb-true, leb-false, le-le
 use Rattle.base.proofs.TestLaws.{Tested, holds, fails, test, and-both, or-other}
 use Rattle.wire.specs.Numbers.{le16}
 use Rattle.wire.specs.Frame.{framed}
+use Rattle.codes.specs.Ranges.{latest}
 use Rattle.fields.specs.Fields.{sheetIn}
 use Rattle.fields.specs.Tests.{inRange}
 use Rattle.element_codes.specs.Elements.{elementListed}
+use Rattle.element_row.specs.Row.{mostOutages}
 use Rattle.element_table.specs.declared.Table.{Table}
 use Rattle.element_rules.specs.Fields.{codeIn, startIn, endIn, unitIn}
 use Rattle.element_table.specs.Rules.{byKind, rowNamed, unframed, kindNotTaken, lengthWrong, outOfPlace, sheetOutOfRange, notListed, timeWrong, codeFull}
@@ -164,15 +166,15 @@ module _ (kind : ℕ) (s : List ℕ) where
       (either (not (elementListed (codeIn s))) (ltb 1 (unitIn s)) (negation (elementListed (codeIn s))) (less 1 (unitIn s)))
 
   -- 10: "an end before its start or a time over 600,000"
-  pub says-10 : (timeWrong kind s ≡ true) ↔ OfKind kind ⊥ (((endIn s < startIn s) ⊎ (600000 < startIn s)) ⊎ (600000 < endIn s)) ⊥
+  pub says-10 : (timeWrong kind s ≡ true) ↔ OfKind kind ⊥ (((endIn s < startIn s) ⊎ (latest < startIn s)) ⊎ (latest < endIn s)) ⊥
   says-10 =
-      of-kind false (ltb (endIn s) (startIn s) || ltb 600000 (startIn s) || ltb 600000 (endIn s)) false kind
+      of-kind false (ltb (endIn s) (startIn s) || ltb latest (startIn s) || ltb latest (endIn s)) false kind
       never
-      (either (ltb (endIn s) (startIn s) || ltb 600000 (startIn s)) (ltb 600000 (endIn s))
-      (either (ltb (endIn s) (startIn s)) (ltb 600000 (startIn s)) (less (endIn s) (startIn s)) (less 600000 (startIn s)))
-      (less 600000 (endIn s)))
+      (either (ltb (endIn s) (startIn s) || ltb latest (startIn s)) (ltb latest (endIn s))
+      (either (ltb (endIn s) (startIn s)) (ltb latest (startIn s)) (less (endIn s) (startIn s)) (less latest (startIn s)))
+      (less latest (endIn s)))
       never
 
   -- 15: "a code with 65,535 outages"
-  pub says-15 : (t : Table) → (codeFull kind s t ≡ true) ↔ OfKind kind ⊥ (65535 ≤ rowNamed t s .outages) ⊥
-  says-15 t = of-kind false (leb 65535 (rowNamed t s .outages)) false kind never (at-most 65535 (rowNamed t s .outages)) never
+  pub says-15 : (t : Table) → (codeFull kind s t ≡ true) ↔ OfKind kind ⊥ (mostOutages ≤ rowNamed t s .outages) ⊥
+  says-15 t = of-kind false (leb mostOutages (rowNamed t s .outages)) false kind never (at-most mostOutages (rowNamed t s .outages)) never

@@ -15,7 +15,9 @@ use Rattle.base.specs.Lists.{listed}
 use Rattle.base.proofs.FirstLaws.{exactly-then, clear-at, first-listed}
 use Rattle.base.proofs.TestLaws.{Tested, holds, fails, test, or-left, or-right, or-both}
 use Rattle.wire.specs.Frame.{framed, kindOf}
+use Rattle.codes.specs.Ranges.{latest}
 use Rattle.element_codes.specs.Elements.{elementListed}
+use Rattle.element_row.specs.Row.{mostOutages}
 use Rattle.element_table.specs.declared.Table.{Table}
 use Rattle.element_table.specs.declared.Filed.{Filed}
 use Rattle.element_table.specs.Table.{periodWithin, beginOf, soundTable, fileBegun}
@@ -72,7 +74,7 @@ module _ (t : Table) (s : List ℕ) where
   exactly-outage k = (there, back)
     where
       late : Bool
-      late = ltb (endIn s) (startIn s) || ltb 600000 (startIn s)
+      late = ltb (endIn s) (startIn s) || ltb latest (startIn s)
 
       there : answerOf t s ≡ 0 → OutageRight t s
       there a =
@@ -85,8 +87,8 @@ module _ (t : Table) (s : List ℕ) where
             seen = not-false (t .seen) (c 5);
             listed = not-false (elementListed (codeIn s)) (c 7);
             ordered = ltb-false (endIn s) (startIn s) (or-left _ _ (or-left late _ times));
-            timely = ltb-false 600000 (endIn s) (or-right late _ times);
-            room = leb-false 65535 (rowNamed t s .outages) (c 15);
+            timely = ltb-false latest (endIn s) (or-right late _ times);
+            room = leb-false mostOutages (rowNamed t s .outages) (c 15);
           }
 
       back : OutageRight t s → answerOf t s ≡ 0
@@ -94,10 +96,10 @@ module _ (t : Table) (s : List ℕ) where
           let ordered = r .ordered in
           let timely = r .timely in
           let by10 =
-          or-both late (ltb 600000 (endIn s))
-          (or-both (ltb (endIn s) (startIn s)) (ltb 600000 (startIn s)) (le-ltb _ _ ordered) (le-ltb 600000 (startIn s) (omega arith)))
+          or-both late (ltb latest (endIn s))
+          (or-both (ltb (endIn s) (startIn s)) (ltb latest (startIn s)) (le-ltb _ _ ordered) (le-ltb latest (startIn s) (omega arith)))
           (le-ltb _ _ timely) in
-          let by15 = lt-leb 65535 (rowNamed t s .outages) (r .room) in
+          let by15 = lt-leb mostOutages (rowNamed t s .outages) (r .room) in
           accepted-at 4 k (r .sound) (r .framed)
           (refl, (ap not (eq-eqb _ _ (r .size)), (ap not (r .seen), (refl, (ap not (r .listed), (by10, (by15, tt)))))))
 

@@ -16,6 +16,7 @@ use Rattle.base.proofs.ListLaws.{all-append}
 use Rattle.wire.specs.Frame.{kindOf}
 use Rattle.wire.specs.Cut.{cutIn, recordsOf, joined}
 use Rattle.wire.proofs.ByteLaws.{le16-below}
+use Rattle.codes.specs.Ranges.{mostEvents}
 use Rattle.used_numbers.specs.Marks.{marked}
 use Rattle.fields.specs.declared.Sheet.{Sheet}
 use Rattle.fields.specs.Fields.{sheetIn}
@@ -137,7 +138,7 @@ module _ (s : List ℕ) (xs ys : List (List ℕ)) (told₁ : Told s xs) (told₂
           at-most 65535 (map numberIn (xs ++ ys)) (omega arith) different
           (numbers-within (sheetIn s) (xs ++ ys) refl right (all-append Bytes xs ys bytes₁ bytes₂))
 
-      room : 0 + length (xs ++ ys) ≤ 65535
+      room : 0 + length (xs ++ ys) ≤ mostEvents
       room = omega (arith, few, length-map (xs ++ ys) numberIn)
 
 -- events leave the sheet

@@ -11,7 +11,7 @@ use borrow.Author.Tests.{eqb-true, eqb-false, ltb-true, ltb-false}
 use Rattle.base.specs.Lists.{any}
 use Rattle.base.proofs.TestLaws.{Tested, holds, fails, test}
 use Rattle.base.proofs.ListLaws.{any-append}
-use Rattle.used_numbers.specs.Marks.{marked, markedWith}
+use Rattle.used_numbers.specs.Marks.{marked, markedWith, mapSize}
 use Rattle.used_numbers.proofs.MarkLaws.{markedWith-zero, markedWith-same, markedWith-other, markedWith-past, markedWith-size}
 use Rattle.law_sums.specs.Accepted.{zeroMap, numberIn, allMarked}
 use Rattle.law_sums.proofs.StateLaws.{zero-unmarked}
@@ -20,7 +20,7 @@ use Rattle.law_sums.proofs.StateLaws.{zero-unmarked}
 abbrev hits : ℕ → ℕ → Bool
 hits v n = eqb n v && (not (eqb n 0) && ltb n 65536)
 
-mark-one : (m : List ℕ) (v n : ℕ) → length m ≡ 8192 → marked (markedWith m n) v ≡ (marked m v || hits v n)
+mark-one : (m : List ℕ) (v n : ℕ) → length m ≡ mapSize → marked (markedWith m n) v ≡ (marked m v || hits v n)
 mark-one m v n size = go (test (eqb n v)) (test (eqb n 0)) (test (ltb n 65536))
   where
     go : Tested (eqb n v) → Tested (eqb n 0) → Tested (ltb n 65536) → marked (markedWith m n) v ≡ (marked m v || hits v n)
@@ -39,7 +39,7 @@ mark-one m v n size = go (test (eqb n v)) (test (eqb n 0)) (test (ltb n 65536))
 
 mark-all :
     (m : List ℕ) (v : ℕ) (ss : List (List ℕ)) →
-    length m ≡ 8192 →
+    length m ≡ mapSize →
     marked (allMarked m ss) v ≡ (marked m v || any (λ (s : List ℕ). hits v (numberIn s)) ss)
 mark-all m v [] size = sym (or-false (marked m v))
 mark-all m v (s ∷ ss) size =
@@ -54,7 +54,7 @@ zero-size zero = refl
 zero-size (suc n) = ap suc (zero-size n)
 
 from-zero : (v : ℕ) (ss : List (List ℕ)) → marked (allMarked zeroMap ss) v ≡ any (λ (s : List ℕ). hits v (numberIn s)) ss
-from-zero v ss = mark-all zeroMap v ss (zero-size 8192) ∙ ap (λ (t : Bool). t || any (λ (s : List ℕ). hits v (numberIn s)) ss) (zero-unmarked v)
+from-zero v ss = mark-all zeroMap v ss (zero-size mapSize) ∙ ap (λ (t : Bool). t || any (λ (s : List ℕ). hits v (numberIn s)) ss) (zero-unmarked v)
 
 -- from the all-zero map, two lists of events one after the other mark just the numbers that either marks
 pub marks-append :

@@ -17,8 +17,9 @@ use Rattle.base.proofs.TestLaws.{Tested, holds, fails, test, and-left, and-both
 use Rattle.wire.specs.Frame.{kindOf}
 use Rattle.records.proofs.TakeLaws.{first-accepted}
 use Rattle.codes.specs.Codes.{rows, levels}
+use Rattle.codes.specs.Ranges.{mostEvents}
 use Rattle.annex.specs.Figure.{Figure}
-use Rattle.used_numbers.specs.Marks.{marked, markedWith}
+use Rattle.used_numbers.specs.Marks.{marked, markedWith, mapSize}
 use Rattle.used_numbers.proofs.MarkLaws.{markedWith-same, markedWith-other, markedWith-past, markedWith-size}
 use Rattle.fields.specs.declared.Sheet.{Sheet}
 use Rattle.fields.specs.Fields.{headIn}
@@ -106,7 +107,7 @@ module _ (sheet : Sheet) (s : List ℕ) (there : sheet .there ≡ true) (right :
   right-verdict = event-verdict s sheet right-not-sheet
 
 -- a number is still unmarked, once another is marked, exactly where it was and the two are apart
-module _ (m : List ℕ) (v w : ℕ) (size : length m ≡ 8192) (some : v ≢ 0) where
+module _ (m : List ℕ) (v w : ℕ) (size : length m ≡ mapSize) (some : v ≢ 0) where
   pub still-unmarked : (marked (markedWith m v) w ≡ false) ↔ ((marked m w ≡ false) × Apart v w)
   still-unmarked = go (test (ltb v 65536))
     where
@@ -126,7 +127,7 @@ module _ (m : List ℕ) (v w : ℕ) (size : length m ≡ 8192) (some : v ≢ 0) 
           )
 
 -- the same of all the numbers that come after it
-module _ (m : List ℕ) (s : List ℕ) (size : length m ≡ 8192) (some : numberIn s ≢ 0) where
+module _ (m : List ℕ) (s : List ℕ) (size : length m ≡ mapSize) (some : numberIn s ≢ 0) where
   pub all-unmarked :
       (ss : List (List ℕ)) →
       All (Unmarked (withNumber m s)) ss ↔ (All (Unmarked m) ss × All (Apart (numberIn s)) (map numberIn ss))
@@ -142,27 +143,27 @@ module _ (m : List ℕ) (s : List ℕ) (size : length m ≡ 8192) (some : number
 pub record Ready (l : Ledger) (m : List ℕ) : Type 0 where
   pub there : l .sheet .there ≡ true
   pub sound : soundLedger l ≡ true
-  pub size : length m ≡ 8192
+  pub size : length m ≡ mapSize
 
 module _ (l : Ledger) (m s : List ℕ) (ready : Ready l m) where
   judged : answerOf l m s ≡ recordAnswer s (l .sheet) m (l .events)
   judged = answer-judged l m s (sound-taken l m (ready .sound) (ready .size))
 
   -- one record: right by itself, with a number that is not marked, and room for it
-  pub one-accepted : (answerOf l m s ≡ 0) ↔ (Right (l .sheet) s × Unmarked m s × (l .events < 65535))
+  pub one-accepted : (answerOf l m s ≡ 0) ↔ (Right (l .sheet) s × Unmarked m s × (l .events < mostEvents))
   unfolding recordAnswer
   one-accepted = (to, from)
     where
-      to : answerOf l m s ≡ 0 → Right (l .sheet) s × Unmarked m s × (l .events < 65535)
+      to : answerOf l m s ≡ 0 → Right (l .sheet) s × Unmarked m s × (l .events < mostEvents)
       to a =
           let (right, unmarked, room) = clear-apiece s (l .sheet) m (l .events) (accepted-clear s (l .sheet) m (l .events) (sym judged ∙ a)) in
           let kind = right-kind (l .sheet) s (ready .there) right in (
             right,
             sym (event-asks (kindOf s) (marked m (numberIn s)) kind) ∙ unmarked,
-            leb-false _ _ (sym (event-asks (kindOf s) (leb 65535 (l .events)) kind) ∙ room),
+            leb-false _ _ (sym (event-asks (kindOf s) (leb mostEvents (l .events)) kind) ∙ room),
           )
 
-      from : Right (l .sheet) s × Unmarked m s × (l .events < 65535) → answerOf l m s ≡ 0
+      from : Right (l .sheet) s × Unmarked m s × (l .events < mostEvents) → answerOf l m s ≡ 0
       from (right, unmarked, room) =
           let kind = right-kind (l .sheet) s (ready .there) right in
           judged ∙
@@ -170,7 +171,7 @@ module _ (l : Ledger) (m s : List ℕ) (ready : Ready l m) where
           (apiece-clear s (l .sheet) m (l .events) (
             right,
             event-asks (kindOf s) (marked m (numberIn s)) kind ∙ unmarked,
-            event-asks (kindOf s) (leb 65535 (l .events)) kind ∙ lt-leb 65535 (l .events) room,
+            event-asks (kindOf s) (leb mostEvents (l .events)) kind ∙ lt-leb mostEvents (l .events) room,
           ))
 
   module _ (right : Right (l .sheet) s) (accepted : answerOf l m s ≡ 0) where

@@ -18,7 +18,7 @@ use Rattle.wire.specs.declared.Place.{Place}
 use Rattle.wire.specs.declared.Place.the-variants.{End}
 use Rattle.wire.proofs.CutLaws.{Framed, Stopped, records-stop, records-whole, cut-joined, joined-ends}
 use Rattle.records.proofs.TakeLaws.{first-accepted}
-use Rattle.used_numbers.specs.Marks.{markedWith}
+use Rattle.used_numbers.specs.Marks.{markedWith, mapSize}
 use Rattle.used_numbers.proofs.MarkLaws.{markedWith-zero}
 use Rattle.fields.specs.Fields.{sheetIn, noSheet}
 use Rattle.verdict.specs.declared.Verdict.{Verdict}
@@ -45,11 +45,11 @@ empty-sound : soundLedger emptyLedger ≡ true
 unfolding soundLedger
 empty-sound = refl
 
-zero-size : length zeroMap ≡ 8192
-zero-size = length-replicate {A = ℕ} 8192 0
+zero-size : length zeroMap ≡ mapSize
+zero-size = length-replicate {A = ℕ} mapSize 0
 
 -- the first record that is accepted, whatever the map: a sheet
-module _ (m : List ℕ) (size : length m ≡ 8192) (s : List ℕ) where
+module _ (m : List ℕ) (size : length m ≡ mapSize) (s : List ℕ) where
   judged : answerOf emptyLedger m s ≡ recordAnswer s noSheet m 0
   judged = answer-judged emptyLedger m s (sound-taken emptyLedger m empty-sound size)
 

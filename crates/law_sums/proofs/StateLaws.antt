@@ -184,7 +184,7 @@ records-marked st (s ∷ ss) v b =
 -- the all-zero map marks nothing
 pub zero-unmarked : (v : ℕ) → marked zeroMap v ≡ false
 unfolding marked
-zero-unmarked v = ap (λ (b : ℕ). bitOf b (v % 8)) (zeros 8192 (v / 8)) ∙ ap (λ (q : ℕ). eqb (q % 2) 1) (zero-div (2 ^ (v % 8)))
+zero-unmarked v = ap (λ (b : ℕ). bitOf b (v % 8)) (zeros mapSize (v / 8)) ∙ ap (λ (q : ℕ). eqb (q % 2) 1) (zero-div (2 ^ (v % 8)))
   where
     zeros : (n i : ℕ) → getD {A = ℕ} (replicate n 0) i 0 ≡ 0
     zeros zero i = refl

@@ -12,6 +12,7 @@ use Rattle.base.specs.Lists.{every}
 use Rattle.base.proofs.TestLaws.{and-left, and-right, and-both}
 use Rattle.base.proofs.ListLaws.{every-set, every-weaker, every-or-default}
 use Rattle.codes.specs.Codes.{levels}
+use Rattle.codes.specs.Ranges.{mostEvents}
 use Rattle.annex.specs.Figure.{Figure, Off, Halves, mostOf}
 use Rattle.fields.specs.declared.Sheet.{Sheet}
 use Rattle.fields.specs.Tests.{inRange}
@@ -55,17 +56,17 @@ module _ (l : Ledger) (e : soundLedger l ≡ true) where
   unfolding soundLedger
   sound-sheet = and-left _ _ (and-left _ _ (and-left _ _ e))
 
-  pub sound-events : l .events ≤ 65535
+  pub sound-events : l .events ≤ mostEvents
   unfolding soundLedger
   sound-events = leb-true _ _ (and-right (sheetSound (l .sheet) (l .events)) _ (and-left _ _ (and-left _ _ e)))
 
   pub sound-short : l .short ≤ l .events
   unfolding soundLedger
-  sound-short = leb-true _ _ (and-right (sheetSound (l .sheet) (l .events) && leb (l .events) 65535) _ (and-left _ _ e))
+  sound-short = leb-true _ _ (and-right (sheetSound (l .sheet) (l .events) && leb (l .events) mostEvents) _ (and-left _ _ e))
 
   sound-rows : every (rowWithin (l .events)) (l .rows) ≡ true
   unfolding soundLedger
-  sound-rows = and-right (sheetSound (l .sheet) (l .events) && leb (l .events) 65535 && leb (l .short) (l .events)) _ e
+  sound-rows = and-right (sheetSound (l .sheet) (l .events) && leb (l .events) mostEvents && leb (l .short) (l .events)) _ e
 
   sound-row : (row : ℕ) → rowWithin (l .events) (getD (l .rows) row noRow) ≡ true
   sound-row = every-or-default (rowWithin (l .events)) noRow (l .rows) sound-rows refl

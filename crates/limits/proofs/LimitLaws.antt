@@ -13,6 +13,7 @@ use Rattle.base.specs.Lists.{any, All}
 use Rattle.base.proofs.TestLaws.{or-left, or-right}
 use Rattle.base.proofs.ChainLaws.{each-fails}
 use Rattle.codes.specs.Codes.{levels}
+use Rattle.codes.specs.Ranges.{latest}
 use Rattle.annex.specs.declared.Simple.{Simple}
 use Rattle.annex.specs.declared.Step.{Step}
 use Rattle.annex.specs.Simple.{InOrder}
@@ -22,9 +23,9 @@ use Rattle.annex.proofs.FoldLaws.{each-level}
 use Rattle.limits.specs.Limits.{exceeding, lateStep, anyLate, simpleLate, noneThenSome}
 
 -- a time that breaks no rule is not before the one before it, and at most 600,000
-pub in-time : (before time : ℕ) → lateStep before time ≡ false → (before ≤ time) × (time ≤ 600000)
+pub in-time : (before time : ℕ) → lateStep before time ≡ false → (before ≤ time) × (time ≤ latest)
 in-time before time e =
-    (ltb-false _ _ (or-left (ltb time before) (ltb 600000 time) e), ltb-false _ _ (or-right (ltb time before) (ltb 600000 time) e))
+    (ltb-false _ _ (or-left (ltb time before) (ltb latest time) e), ltb-false _ _ (or-right (ltb time before) (ltb latest time) e))
 
 -- steps of which no time breaks a rule are in order
 pub late-ordered : (t0 : ℕ) (ss : List Step) → anyLate t0 ss ≡ false → Ordered t0 ss
@@ -42,7 +43,7 @@ simple-ordered typ e f =
     let k =
     each-fails
     (ltb (e .t1) (e .t0))
-    (ltb (e .t2) (e .t1) ∷ ltb (e .t3) (e .t2) ∷ ltb 600000 (e .t3) ∷ ltb (e .t4) (e .t0) ∷ ltb 600000 (e .t4)
+    (ltb (e .t2) (e .t1) ∷ ltb (e .t3) (e .t2) ∷ ltb latest (e .t3) ∷ ltb (e .t4) (e .t0) ∷ ltb latest (e .t4)
     ∷ (eqb typ 2 && not (eqb (e .t1) (e .t0))) ∷ [])
     f in
     record {

@@ -12,6 +12,7 @@ use Rattle.base.specs.First.{NoRule}
 use Rattle.base.proofs.TestLaws.{Tested, holds, fails, test, or-left, or-right}
 use Rattle.wire.specs.Frame.{kindOf}
 use Rattle.codes.specs.Codes.{rows, levels, rowOf}
+use Rattle.codes.specs.Ranges.{mostEvents, latest, mostCustomers}
 use Rattle.annex.specs.declared.Figures.{Figures}
 use Rattle.annex.specs.Figures.{nothing}
 use Rattle.annex.specs.Figure.{Figure, figureAt, mostOf}
@@ -49,7 +50,7 @@ kind-taken kind e = go (test (eqb kind 1)) (test (eqb kind 2)) (test (eqb kind 3
 nothing-small : (n : ℕ) (x : Figure) (h : ℕ) → h < levels → figureAt x nothing h ≤ n * mostOf x
 nothing-small n x h l = omega (arith, nothing-gives x h l)
 
-module _ (sheet : Sheet) (events : ℕ) (most : events ≤ 65535) where
+module _ (sheet : Sheet) (events : ℕ) (most : events ≤ mostEvents) where
   -- there is room for any refusal, at up to 65,535 events
   pub refused-fair : (n : ℕ) → Fair sheet events (refusedWith sheet n)
   refused-fair n =
@@ -76,7 +77,7 @@ module _ (sheet : Sheet) (events : ℕ) (most : events ≤ 65535) where
 -- an accepted event: short or not
 module _ (sheet : Sheet) (events : ℕ) (h : Head) (end : ℕ) (f : Figures) where
   -- there is room where the sheet is there, events are below 65,535, the type has a row and the figures are within what one event may add
-  pub event-fair : sheet .there ≡ true → events < 65535 → rowOf (h .typ) < rows → ((level : ℕ) → level < levels → Within f level) → Fair sheet events (eventVerdict sheet h end f)
+  pub event-fair : sheet .there ≡ true → events < mostEvents → rowOf (h .typ) < rows → ((level : ℕ) → level < levels → Within f level) → Fair sheet events (eventVerdict sheet h end f)
   unfolding eventVerdict
   event-fair there room row within = go (isShort (h .t0) end) refl
     where
@@ -100,27 +101,27 @@ module _ (sheet : Sheet) (events : ℕ) (h : Head) (end : ℕ) (f : Figures) whe
             goes-on = inl (refl, inl there);
           }
 
-year-below : (year : ℕ) → minutesIn year ≤ 600000
+year-below : (year : ℕ) → minutesIn year ≤ latest
 unfolding minutesIn
 year-below year = go (eqb (Prim.Native.Nat._%_ year 4) 0)
   where
-    go : (t : Bool) → cond t 527040 525600 ≤ 600000
+    go : (t : Bool) → cond t 527040 525600 ≤ latest
     go true = omega arith
     go false = omega arith
 
-module _ (s : List ℕ) (sheet : Sheet) (m : List ℕ) (events : ℕ) (most : events ≤ 65535) (range : sheet .there ≡ true → inRange sheet ≡ true) where
+module _ (s : List ℕ) (sheet : Sheet) (m : List ℕ) (events : ℕ) (most : events ≤ mostEvents) (range : sheet .there ≡ true → inRange sheet ≡ true) where
   accepted-sheet-fair : NoRule (rulesAt 1 s sheet m events) → Fair sheet events (acceptedAt 1 s sheet)
   accepted-sheet-fair c = sheet-fair sheet events most (sheetIn s) (c 5) refl (not-false _ (c 6))
 
   accepted-simple-fair : NoRule (rulesAt 2 s sheet m events) → Fair sheet events (acceptedAt 2 s sheet)
   accepted-simple-fair c =
       let there : sheet .there ≡ true = not-false _ (c 5) in
-      let few : Few 10000000 (sheet .totals) = range-few sheet (range there) in
+      let few : Few mostCustomers (sheet .totals) = range-few sheet (range there) in
       let times : simpleLate (headIn s .typ) (simpleIn s) ≡ false =
       or-right (leb (minutesIn (sheet .year)) (headIn s .t0)) _ (c 10) in
       let counts = c 11 in
       event-fair sheet events (headIn s) _ _ there
-      (leb-false 65535 events (c 15))
+      (leb-false mostEvents events (c 15))
       (listed-row (headIn s) (not-false _ (c 7)))
       (simple-within (simpleIn s) (simple-ordered (headIn s .typ) (simpleIn s) times)
       (within-totals few (simpleIn s .n1) (or-left (exceeding (sheet .totals) (simpleIn s .n1)) _ counts))
@@ -129,12 +130,12 @@ module _ (s : List ℕ) (sheet : Sheet) (m : List ℕ) (events : ℕ) (most : ev
   accepted-stepped-fair : NoRule (rulesAt 3 s sheet m events) → Fair sheet events (acceptedAt 3 s sheet)
   accepted-stepped-fair c =
       let there : sheet .there ≡ true = not-false _ (c 5) in
-      let few : Few 10000000 (sheet .totals) = range-few sheet (range there) in
+      let few : Few mostCustomers (sheet .totals) = range-few sheet (range there) in
       let t0 = headIn s .t0 in
       let begins : t0 < minutesIn (sheet .year) = leb-false _ _ (or-left (leb (minutesIn (sheet .year)) t0) (anyLate t0 (stepsIn s)) (c 10)) in
       let times : anyLate t0 (stepsIn s) ≡ false = or-right (leb (minutesIn (sheet .year)) t0) _ (c 10) in
       event-fair sheet events (headIn s) _ _ there
-      (leb-false 65535 events (c 15))
+      (leb-false mostEvents events (c 15))
       (listed-row (headIn s) (not-false _ (c 7)))
       (stepped-within t0 (stepsIn s) (omega (arith, year-below (sheet .year))) (late-ordered t0 (stepsIn s) times)
       (all-within few (stepsIn s) (c 11)))

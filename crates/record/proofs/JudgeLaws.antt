@@ -11,6 +11,7 @@ use Rattle.base.proofs.FirstLaws.{clear, clear-at, unclear, then}
 use Rattle.base.proofs.TestLaws.{Tested, holds, fails, test, or-right}
 use Rattle.wire.specs.Frame.{framed, kindOf}
 use Rattle.codes.specs.Codes.{levelOf}
+use Rattle.codes.specs.Ranges.{mostEvents}
 use Rattle.annex.specs.declared.Step.{Step}
 use Rattle.annex.specs.Times.{minutesIn}
 use Rattle.used_numbers.specs.Marks.{marked}
@@ -132,7 +133,7 @@ module _ (s : List ℕ) (sheet : Sheet) (m : List ℕ) (events : ℕ) where
       over = any (λ (st : Step). exceeding (sheet .totals) (st .counts)) (stepsIn s)
 
       rest : Bool → ℕ
-      rest high = cond high 12 (cond (marked m (headIn s .number)) 14 (cond (leb 65535 events) 15 0))
+      rest high = cond high 12 (cond (marked m (headIn s .number)) 14 (cond (leb mostEvents events) 15 0))
 
       high : Bool
       high = any (λ (st : Step). aboveLevel (levelOf (headIn s .voltage)) (st .counts)) (stepsIn s)

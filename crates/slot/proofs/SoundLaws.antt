@@ -11,6 +11,7 @@ use Rattle.base.specs.Lists.{All}
 use Rattle.base.proofs.TestLaws.{and-left, and-right, or-other, Tested, holds, fails, test}
 use Rattle.base.proofs.ChainLaws.{each-holds}
 use Rattle.codes.specs.Codes.{levels, levelOf}
+use Rattle.codes.specs.Ranges.{latest, mostCustomers}
 use Rattle.annex.specs.Figures.{customersAt, halvesAt}
 use Rattle.annex.specs.Figure.{Off, Halves, mostOf}
 use Rattle.annex.specs.Inside.{Room, Within}
@@ -22,7 +23,7 @@ use Rattle.slot.specs.Slot.{freeSlot}
 use Rattle.slot.specs.Sound.{noCustomers, noHalves, isFree, levelWithin, openSound, slotSound}
 
 -- a level's half minutes are within what an event may come to
-brief : (c h t0 last : ℕ) → c ≤ 10000000 → h ≤ 2 * c * (last - t0) → last ≤ 600000 → h ≤ 12000000000000
+brief : (c h t0 last : ℕ) → c ≤ mostCustomers → h ≤ 2 * c * (last - t0) → last ≤ latest → h ≤ 12000000000000
 brief c h t0 last few most ends =
     let k : 2 * c * (last - t0) ≤ 20000000 * (last - t0) = mul-le-mul-right (last - t0) (omega arith) in
     omega arith
@@ -36,7 +37,7 @@ module _ (s : Slot) where
   others =
       ltb (s .head .t0) 527040 ∷
       leb (s .head .t0) (s .last) ∷
-      leb (s .last) 600000 ∷
+      leb (s .last) latest ∷
       leb (s .steps) 64 ∷
       within 0 ∷
       within 1 ∷
@@ -58,7 +59,7 @@ module _ (s : Slot) where
   pub open-in-order : openSound s ≡ true → s .head .t0 ≤ s .last
   open-in-order o = leb-true _ _ (open-tests o .1 .1 .0)
 
-  pub open-ends : openSound s ≡ true → s .last ≤ 600000
+  pub open-ends : openSound s ≡ true → s .last ≤ latest
   open-ends o = leb-true _ _ (open-tests o .1 .1 .1 .0)
 
   pub open-steps : openSound s ≡ true → s .steps ≤ 64
@@ -71,11 +72,11 @@ module _ (s : Slot) where
       (open-tests o .1 .1 .1 .1 .1 .1 .0)
       (open-tests o .1 .1 .1 .1 .1 .1 .1 .0)
 
-  pub open-customers : openSound s ≡ true → (level : ℕ) → level < levels → customersAt (s .figures) level ≤ 10000000
-  open-customers o level l = leb-true _ _ (and-left (leb (customersAt (s .figures) level) 10000000) _ (open-level o level l))
+  pub open-customers : openSound s ≡ true → (level : ℕ) → level < levels → customersAt (s .figures) level ≤ mostCustomers
+  open-customers o level l = leb-true _ _ (and-left (leb (customersAt (s .figures) level) mostCustomers) _ (open-level o level l))
 
   pub open-halves : openSound s ≡ true → (level : ℕ) → level < levels → halvesAt (s .figures) level ≤ 2 * customersAt (s .figures) level * (s .last - s .head .t0)
-  open-halves o level l = leb-true _ _ (and-right (leb (customersAt (s .figures) level) 10000000) _ (open-level o level l))
+  open-halves o level l = leb-true _ _ (and-right (leb (customersAt (s .figures) level) mostCustomers) _ (open-level o level l))
 
   pub open-none-above : openSound s ≡ true → figuresAbove (levelOf (s .head .voltage)) (s .figures) ≡ false
   open-none-above o = not-true _ (open-tests o .1 .1 .1 .1 .1 .1 .1 .1 .0)
@@ -89,10 +90,10 @@ module _ (s : Slot) where
       go (fails f) = sym f
 
   -- where all tests before the last hold, the last decides
-  pub last-decides : headListed (s .head) ≡ true → s .head .t0 < 527040 → s .head .t0 ≤ s .last → s .last ≤ 600000 → s .steps ≤ 64 → within 0 ≡ true → within 1 ≡ true → within 2 ≡ true → figuresAbove (levelOf (s .head .voltage)) (s .figures) ≡ false → (ltb 0 (s .steps) || (eqb (s .last) (s .head .t0) && noCustomers (s .figures))) ≡ openSound s
+  pub last-decides : headListed (s .head) ≡ true → s .head .t0 < 527040 → s .head .t0 ≤ s .last → s .last ≤ latest → s .steps ≤ 64 → within 0 ≡ true → within 1 ≡ true → within 2 ≡ true → figuresAbove (levelOf (s .head .voltage)) (s .figures) ≡ false → (ltb 0 (s .steps) || (eqb (s .last) (s .head .t0) && noCustomers (s .figures))) ≡ openSound s
   unfolding openSound
   last-decides known begins order ends few nn vn vvn none =
-      sym (λ i. known i && lt-ltb (s .head .t0) 527040 begins i && le-leb (s .head .t0) (s .last) order i && le-leb (s .last) 600000 ends i && le-leb (s .steps) 64 few i && nn i && vn i && vvn i && not (none i) && (ltb 0 (s .steps) || (eqb (s .last) (s .head .t0) && noCustomers (s .figures))))
+      sym (λ i. known i && lt-ltb (s .head .t0) 527040 begins i && le-leb (s .head .t0) (s .last) order i && le-leb (s .last) latest ends i && le-leb (s .steps) 64 few i && nn i && vn i && vvn i && not (none i) && (ltb 0 (s .steps) || (eqb (s .last) (s .head .t0) && noCustomers (s .figures))))
 
   -- no step taken: the last time is T0, and the largest counts are 0
   pub open-untouched : openSound s ≡ true → s .steps ≡ 0 → (s .last ≡ s .head .t0) × (noCustomers (s .figures) ≡ true)

@@ -13,9 +13,11 @@ use Rattle.base.proofs.TestLaws.{Tested, holds, fails, test, and-left, and-righ
 use Rattle.wire.specs.Frame.{kindOf}
 use Rattle.wire.specs.Cut.{recordsOf}
 use Rattle.codes.specs.Codes as codes
+use Rattle.codes.specs.Ranges.{mostEvents, mostCustomers}
 use Rattle.annex.specs.Times.{isShort}
 use Rattle.annex.specs.Simple.{simpleFigures}
 use Rattle.annex.specs.Stepped.{lastTime, steppedFigures}
+use Rattle.used_numbers.specs.Marks.{mapSize}
 use Rattle.fields.specs.Fields.{sheetIn, headIn, simpleIn, stepsIn}
 use Rattle.fields.specs.declared.Sheet.{Sheet}
 use Rattle.fields.specs.Tests.{inRange}
@@ -61,22 +63,22 @@ in-range-fits : (s : Sheet) → length (s .totals) ≡ codes.levels → inRange 
 in-range-fits s n e =
     let low = leb 2000 (s .year) in
     let high = leb (s .year) 2099 in
-    let a = leb (getD (s .totals) 0 0) 10000000 in
-    let b = leb (getD (s .totals) 1 0) 10000000 in
-    let c = leb (getD (s .totals) 2 0) 10000000 in
+    let a = leb (getD (s .totals) 0 0) mostCustomers in
+    let b = leb (getD (s .totals) 1 0) mostCustomers in
+    let c = leb (getD (s .totals) 2 0) mostCustomers in
     let e₃ = and-left (low && high && a && b) c e in
     let e₂ = and-left (low && high && a) b e₃ in
     let e₁ = and-left (low && high) a e₂ in
     record {
       year = omega (arith, leb-true (s .year) 2099 (and-right low high e₁));
       levels = n;
-      nn = omega (arith, leb-true (getD (s .totals) 0 0) 10000000 (and-right (low && high) a e₂));
-      vn = omega (arith, leb-true (getD (s .totals) 1 0) 10000000 (and-right (low && high && a) b e₃));
-      vvn = omega (arith, leb-true (getD (s .totals) 2 0) 10000000 (and-right (low && high && a && b) c e));
+      nn = omega (arith, leb-true (getD (s .totals) 0 0) mostCustomers (and-right (low && high) a e₂));
+      vn = omega (arith, leb-true (getD (s .totals) 1 0) mostCustomers (and-right (low && high && a) b e₃));
+      vvn = omega (arith, leb-true (getD (s .totals) 2 0) mostCustomers (and-right (low && high && a && b) c e));
     }
 
 -- what a verdict adds, where its sheet fits and there is room
-added-fits : (l : Ledger) (v : Verdict) → Fitting l → SheetFits (v .sheet) → l .events + v .events ≤ 65535 → l .short + v .short ≤ 65535 → Fitting (added l v)
+added-fits : (l : Ledger) (v : Verdict) → Fitting l → SheetFits (v .sheet) → l .events + v .events ≤ mostEvents → l .short + v .short ≤ mostEvents → Fitting (added l v)
 unfolding added
 added-fits l v f s events short =
     record {
@@ -93,7 +95,7 @@ added-fits l v f s events short =
 -- ---- the ledgers that are handed back
 
 sound-of : (l : Ledger) (m : List ℕ) → unsound l m ≡ false → soundLedger l ≡ true
-sound-of l m u = not-false (soundLedger l) (or-right (not (eqb (length m) 8192)) (not (soundLedger l)) u)
+sound-of l m u = not-false (soundLedger l) (or-right (not (eqb (length m) mapSize)) (not (soundLedger l)) u)
 
 -- an accepted record's sheet is the ledger's or its own, with three totals either way
 pick : (a b : Bool) (x y z : Verdict) → length (x .sheet .totals) ≡ codes.levels → length (y .sheet .totals) ≡ codes.levels → length (z .sheet .totals) ≡ codes.levels → length (cond a x (cond b y z) .sheet .totals) ≡ codes.levels

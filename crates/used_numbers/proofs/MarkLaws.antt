@@ -10,7 +10,7 @@ use lib.Dec.{eqb}
 use native.Mathlib.Omega.{arith}
 use native.Mathlib.Decide.{ℕ-discrete}
 use borrow.Author.Tests.{ne-eqb}
-use Rattle.used_numbers.specs.Marks.{bitOf, withBit, marked, marking, markedWith}
+use Rattle.used_numbers.specs.Marks.{bitOf, withBit, marked, marking, markedWith, mapSize}
 use Rattle.used_numbers.proofs.BitLaws.{unset-bit-fits, bit-same, bit-other, bit-comm}
 
 pub marking-size : (m : List ℕ) (v : ℕ) → length (marking m v) ≡ length m
@@ -39,7 +39,7 @@ unfolding marked
 marking-fits m v l e = unset-bit-fits (getD m (v / 8) 0) (v % 8) l (omega arith) e
 
 -- in a map of 8,192 bytes a number below 65,536 is marked once it was marked
-pub marking-same : (m : List ℕ) (v : ℕ) → length m ≡ 8192 → v < 65536 → marked (marking m v) v ≡ true
+pub marking-same : (m : List ℕ) (v : ℕ) → length m ≡ mapSize → v < 65536 → marked (marking m v) v ≡ true
 unfolding marking marked
 marking-same m v l f =
     ap (λ b. bitOf b (v % 8)) (getD-set-same m (v / 8) (withBit (getD m (v / 8) 0) (v % 8)) 0 (omega arith)) ∙
@@ -121,7 +121,7 @@ markedWith-adds m v z e = markedWith-number m v z ∙ marking-adds m v e
 pub markedWith-size : (m : List ℕ) (v : ℕ) → length (markedWith m v) ≡ length m
 markedWith-size m v = markedWith-either (λ n. length n ≡ length m) m v refl (marking-size m v)
 
-pub markedWith-same : (m : List ℕ) (v : ℕ) → length m ≡ 8192 → v < 65536 → v ≢ 0 → marked (markedWith m v) v ≡ true
+pub markedWith-same : (m : List ℕ) (v : ℕ) → length m ≡ mapSize → v < 65536 → v ≢ 0 → marked (markedWith m v) v ≡ true
 markedWith-same m v l f z = ap (λ n. marked n v) (markedWith-number m v z) ∙ marking-same m v l f
 
 pub markedWith-other : (m : List ℕ) (v w : ℕ) → v ≢ w → marked (markedWith m v) w ≡ marked m w

@@ -9,6 +9,7 @@ use native.Mathlib.Omega.{arith}
 use native.Mathlib.Nat.{add-zero}
 use borrow.Author.Tests.{eq-eqb, ne-eqb, eqb-true, not-false}
 use Rattle.base.proofs.TestLaws.{or-left, or-right}
+use Rattle.used_numbers.specs.Marks.{mapSize}
 use Rattle.ledger.specs.Sound.{soundLedger}
 use Rattle.ledger.specs.Take.{unsound}
 use Rattle.book.specs.declared.Pass.{Pass}
@@ -20,8 +21,8 @@ use Rattle.book.proofs.take_book.Statement.{statement}
 use Rattle.book.proofs.take_book.Tie as tie
 
 -- the test at the start is that of refusal 1
-tested : (c : tie.After-sound) → (not (eqb (length (c .before .before .before .args .map .now)) 8192) || not (c .sound .result)) ≡ unsound (c .before .before .before .args .ledger) (c .before .before .before .args .map .now)
-tested c = λ i. not (eqb (length (c .before .before .before .args .map .now)) 8192) || not (c .sound .ensures i)
+tested : (c : tie.After-sound) → (not (eqb (length (c .before .before .before .args .map .now)) mapSize) || not (c .sound .result)) ≡ unsound (c .before .before .before .args .ledger) (c .before .before .before .args .map .now)
+tested c = λ i. not (eqb (length (c .before .before .before .args .map .now)) mapSize) || not (c .sound .ensures i)
 
 fine : (c : tie.Else1) → unsound (c .before .before .before .before .args .ledger) (c .before .before .before .before .args .map .now) ≡ false
 fine c = sym (tested (c .before)) ∙ c .if1 .left
@@ -36,8 +37,8 @@ take-records-requires : tie.Need-take-records-requires
 take-records-requires c κs =
     let a = c .before .before .before .before .before .args in
     let u = fine (c .before) in (
-      not-false _ (or-right (not (eqb (length (a .map .now)) 8192)) _ u),
-      eqb-true _ _ (not-false _ (or-left (not (eqb (length (a .map .now)) 8192)) (not (soundLedger (a .ledger))) u)),
+      not-false _ (or-right (not (eqb (length (a .map .now)) mapSize)) _ u),
+      eqb-true _ _ (not-false _ (or-left (not (eqb (length (a .map .now)) mapSize)) (not (soundLedger (a .ledger))) u)),
     )
 
 add-t13 : tie.Need-add-t13

@@ -8,6 +8,7 @@ use lib.Dec.{eqb}
 use lib.ListN.{length, take}
 use native.Mathlib.Omega.{arith}
 use borrow.Author.Needs.{needs}
+use Rattle.used_numbers.specs.Marks.{mapSize}
 use Rattle.book.specs.declared.Pass.{Pass}
 use Rattle.book.specs.Book.{passOf, afterBook}
 use Rattle.records.specs.Pieces.{deadRest, moved, pieceAnswer}
@@ -24,7 +25,7 @@ told :
     fedAnswer (c .before .before .before .before .before .args .f) (c .before .before .before .before .before .args .map .now) (c .before .before .before .before .before .args .buffer .now) (c .before .before .before .before .before .args .filled)
 told c =
     let a = c .before .before .before .before .before .args in
-    c .piece-answer .ensures ∙ (λ i. pieceAnswer (eqb (length (a .map .now)) 8192 && c .before .sound .ensures i) (a .f .refused) (length (a .buffer .now)) (a .filled))
+    c .piece-answer .ensures ∙ (λ i. pieceAnswer (eqb (length (a .map .now)) mapSize && c .before .sound .ensures i) (a .f .refused) (length (a .buffer .now)) (a .filled))
 
 fine : (c : tie.Else1) → fedAnswer (c .before .before .before .before .before .before .args .f) (c .before .before .before .before .before .before .args .map .now) (c .before .before .before .before .before .before .args .buffer .now) (c .before .before .before .before .before .before .args .filled) ≡ 0
 fine c = sym (told (c .before)) ∙ c .if1 .left

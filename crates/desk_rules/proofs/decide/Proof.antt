@@ -6,6 +6,7 @@ use lib.Dec.{eqb}
 use borrow.Author.Tests.{eqb-false, not-true, not-false}
 use Rattle.base.proofs.TestLaws.{and-right, or-left, or-right}
 use Rattle.wire.specs.Frame.{framed, kindOf}
+use Rattle.used_numbers.specs.Marks.{mapSize}
 use Rattle.ledger.specs.Sound.{soundLedger}
 use Rattle.slot.specs.Sound.{slotSound}
 use Rattle.desk_scan.specs.Inside.{rollSound}
@@ -17,8 +18,8 @@ use Rattle.desk_rules.proofs.decide.Statement.{statement}
 use Rattle.desk_rules.proofs.decide.Tie as tie
 
 -- the test at the start is that of refusal 1
-tested : (c : tie.After-sound2) → (not (eqb (length (c .before .before .before .before .before .args .map .now)) 8192) || not (c .sound2 .result) || not (c .before .before .holds .result && c .before .sound .result)) ≡ anyUnsound (lookBy (c .before .before .before .before .before .args .slots) (c .before .before .before .before .before .args .roll) (c .before .before .before .before .before .args .slot) (c .before .before .before .before .before .args .bytes .now)) (c .before .before .before .before .before .args .ledger) (c .before .before .before .before .before .args .map .now)
-tested c = λ i. not (eqb (length (c .before .before .before .before .before .args .map .now)) 8192) || not (c .sound2 .ensures i) || not (c .before .before .holds .ensures i && c .before .sound .ensures i)
+tested : (c : tie.After-sound2) → (not (eqb (length (c .before .before .before .before .before .args .map .now)) mapSize) || not (c .sound2 .result) || not (c .before .before .holds .result && c .before .sound .result)) ≡ anyUnsound (lookBy (c .before .before .before .before .before .args .slots) (c .before .before .before .before .before .args .roll) (c .before .before .before .before .before .args .slot) (c .before .before .before .before .before .args .bytes .now)) (c .before .before .before .before .before .args .ledger) (c .before .before .before .before .before .args .map .now)
+tested c = λ i. not (eqb (length (c .before .before .before .before .before .args .map .now)) mapSize) || not (c .sound2 .ensures i) || not (c .before .before .holds .ensures i && c .before .sound .ensures i)
 
 fine : (c : tie.Else1) → anyUnsound (lookBy (c .before .before .before .before .before .before .args .slots) (c .before .before .before .before .before .before .args .roll) (c .before .before .before .before .before .before .args .slot) (c .before .before .before .before .before .before .args .bytes .now)) (c .before .before .before .before .before .before .args .ledger) (c .before .before .before .before .before .before .args .map .now) ≡ false
 fine c = sym (tested (c .before)) ∙ c .if1 .left
@@ -27,12 +28,12 @@ fine c = sym (tested (c .before)) ∙ c .if1 .left
 slot-sound : (c : tie.Else1) → slotSound (c .before .before .before .before .before .before .args .slot) ≡ true
 slot-sound c =
     let a = c .before .before .before .before .before .before .args in
-    and-right (rollSound (a .slots) (a .roll)) _ (not-false _ (or-right (not (eqb (length (a .map .now)) 8192) || not (soundLedger (a .ledger))) _ (fine c)))
+    and-right (rollSound (a .slots) (a .roll)) _ (not-false _ (or-right (not (eqb (length (a .map .now)) mapSize) || not (soundLedger (a .ledger))) _ (fine c)))
 
 ledger-sound : (c : tie.Else1) → soundLedger (c .before .before .before .before .before .before .args .ledger) ≡ true
 ledger-sound c =
     let a = c .before .before .before .before .before .before .args in
-    not-false _ (or-right (not (eqb (length (a .map .now)) 8192)) _ (or-left (not (eqb (length (a .map .now)) 8192) || not (soundLedger (a .ledger))) _ (fine c)))
+    not-false _ (or-right (not (eqb (length (a .map .now)) mapSize)) _ (or-left (not (eqb (length (a .map .now)) mapSize) || not (soundLedger (a .ledger))) _ (fine c)))
 
 returns : tie.Need-returns
 returns c =

@@ -6,6 +6,7 @@ use mathlib.Core.Logic.{_⊎_, inl, inr}
 use mathlib.Core.Bool.{_||_, not, cond}
 use lib.Dec.{leb, eqb}
 use borrow.Author.Tests.{eq-eqb, ne-eqb, eqb-false, le-leb, lt-leb}
+use Rattle.codes.specs.Ranges.{mostEvents}
 use Rattle.verdict.specs.declared.Verdict.{Verdict}
 use Rattle.ledger.specs.Ledger.{added}
 use Rattle.ledger.specs.Inside.{Fits}
@@ -19,14 +20,14 @@ use Rattle.desk_rules.proofs.plan_close.Tie as tie
 -- the rest is 15 where the ledger is full, and else 0
 either :
     {A B : Type 0} (events rest : ℕ) →
-    (A → 65535 ≤ events) →
-    (B → events < 65535) →
+    (A → mostEvents ≤ events) →
+    (B → events < mostEvents) →
     (A × (rest ≡ 15)) ⊎ (B × (rest ≡ 0)) →
-    rest ≡ cond (leb 65535 events) 15 0
-either events rest full spare (inl x) = x .1 ∙ ap (λ t. cond t 15 0) (sym (le-leb 65535 events (full (x .0))))
-either events rest full spare (inr x) = x .1 ∙ ap (λ t. cond t 15 0) (sym (lt-leb 65535 events (spare (x .0))))
+    rest ≡ cond (leb mostEvents events) 15 0
+either events rest full spare (inl x) = x .1 ∙ ap (λ t. cond t 15 0) (sym (le-leb mostEvents events (full (x .0))))
+either events rest full spare (inr x) = x .1 ∙ ap (λ t. cond t 15 0) (sym (lt-leb mostEvents events (spare (x .0))))
 
-rest-is : (c : tie.Joined2) → c .if2 .rest ≡ cond (leb 65535 (c .before .before .before .before .before .before .before .before .before .before .before .args .ledger .events)) 15 0
+rest-is : (c : tie.Joined2) → c .if2 .rest ≡ cond (leb mostEvents (c .before .before .before .before .before .before .before .before .before .before .before .args .ledger .events)) 15 0
 rest-is c = either (c .before .before .before .before .before .before .before .before .before .before .before .args .ledger .events) (c .if2 .rest) (λ x. x .taken) (λ x. x .left) (c .if2 .came)
 
 -- what is answered is what the rules answer: each test is that of the definition, of the fields that were read

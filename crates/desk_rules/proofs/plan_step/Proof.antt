@@ -5,6 +5,7 @@ use Prim.Native.Nat.{_+_, _≤_}
 use mathlib.Core.Bool.{_||_, not, cond}
 use lib.Dec.{leb, ltb, eqb}
 use borrow.Author.Tests.{eq-eqb, ne-eqb, eqb-false}
+use Rattle.codes.specs.Ranges.{latest}
 use Rattle.annex.specs.declared.Step.{Step}
 use Rattle.limits.specs.Limits.{exceeding, aboveLevel, lateStep}
 use Rattle.slot.specs.Slot.{steppedBy}
@@ -54,7 +55,7 @@ stepped-requires c κs =
     let s = a .bytes .now in
     let z = sym (answer-is (c .before)) ∙ c .if2 .left in
     let timely = step-timely (lookBy (a .slots) (a .roll) (a .slot) s) (a .ledger) (a .map .now) s z in
-    let now = subst⁻¹ (λ (t : Step). (a .slot .last ≤ t .time) × (t .time ≤ 600000)) (c .before .before .before .before .before .before .before .before .before .before .before .before .before .before .step-at .ensures) timely in
+    let now = subst⁻¹ (λ (t : Step). (a .slot .last ≤ t .time) × (t .time ≤ latest)) (c .before .before .before .before .before .before .before .before .before .before .before .before .before .before .step-at .ensures) timely in
     let sound = c .before .before .before .before .before .before .before .before .before .before .before .before .before .before .before .before .before .before .before .before .pre in
     (record { room = sound-room (a .slot) sound; order = now .0; ends = now .1 }, sound-steps (a .slot) sound)
 

@@ -11,6 +11,7 @@ use borrow.Author.Needs.{needs}
 use Rattle.ratio.specs.Lowest.{lowestOf}
 use Rattle.element_codes.specs.Elements.{elementListed}
 use Rattle.element_codes.proofs.CodeLaws.{listed-row}
+use Rattle.element_row.specs.Row.{mostOutages}
 use Rattle.element_table.specs.Table.{rowOr, soundTable}
 use Rattle.element_table.proofs.BoundLaws.{sound-period, sound-row}
 use Rattle.element_rates.specs.declared.Figure.the-variants.{Is}
@@ -66,7 +67,7 @@ mul-lowest c =
     let r = c .before .before .before .before .before .before in
     let t = r .before .before .before .before .before .before .args .table in
     let few = sound-row t (sound (r .before .before .before .before)) (r .row-of .result) .outages in
-    let most : c .before .weight .result * rowOr (t .rows) (r .row-of .result) .outages ≤ 1000 * 65535 = mul-le-mul (c .before .weight .ensures .1) few in
+    let most : c .before .weight .result * rowOr (t .rows) (r .row-of .result) .outages ≤ 1000 * mostOutages = mul-le-mul (c .before .weight .ensures .1) few in
     omega arith
 
 mul-lowest-2 : tie.Need-mul-lowest-2

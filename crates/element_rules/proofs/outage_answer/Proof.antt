@@ -5,7 +5,9 @@ use mathlib.Core.Bool.{not, _||_}
 use lib.Dec.{ltb}
 use native.Mathlib.Omega.{arith}
 use borrow.Author.Tests.{eq-eqb, ne-eqb, le-leb, lt-leb}
+use Rattle.codes.specs.Ranges.{latest}
 use Rattle.element_codes.specs.Elements.{elementListed}
+use Rattle.element_row.specs.Row.{mostOutages}
 use Rattle.element_rules.specs.Fields.{codeIn, startIn, endIn}
 use borrow.Author.Needs.{needs}
 use Rattle.element_rules.proofs.outage_answer.Statement.{statement}
@@ -21,10 +23,10 @@ timed :
     let s = c .before .before .before .before .before .before .before .before .args .bytes .now in
     let start = c .before .u32-at .result in
     let end = c .u32-at2 .result in
-    (ltb end start || ltb 600000 start || ltb 600000 end) ≡ (ltb (endIn s) (startIn s) || ltb 600000 (startIn s) || ltb 600000 (endIn s))
+    (ltb end start || ltb latest start || ltb latest end) ≡ (ltb (endIn s) (startIn s) || ltb latest (startIn s) || ltb latest (endIn s))
 timed c =
     λ i.
-    ltb (c .u32-at2 .ensures i) (c .before .u32-at .ensures i) || ltb 600000 (c .before .u32-at .ensures i) || ltb 600000 (c .u32-at2 .ensures i)
+    ltb (c .u32-at2 .ensures i) (c .before .u32-at .ensures i) || ltb latest (c .before .u32-at .ensures i) || ltb latest (c .u32-at2 .ensures i)
 
 returns : tie.Need-returns
 returns c = sym (rw (ne-eqb _ _ (c .if1 .taken)))
@@ -51,8 +53,8 @@ returns-5 c =
     let known = ap not (sym (listed (e .before))) ∙ e .if3 .left in
     let right = sym (timed (d .before)) ∙ d .if4 .left in
     let r = e .before .before .before .before .before .before .args .row in
-    let many : 65535 ≤ r .outages = omega (arith, c .if5 .taken) in
-    sym (rw (eq-eqb _ _ (e .before .before .before .before .if1 .left), e .before .before .before .if2 .left, known, right, le-leb 65535 (r .outages) many))
+    let many : mostOutages ≤ r .outages = omega (arith, c .if5 .taken) in
+    sym (rw (eq-eqb _ _ (e .before .before .before .before .if1 .left), e .before .before .before .if2 .left, known, right, le-leb mostOutages (r .outages) many))
 
 returns-6 : tie.Need-returns-6
 returns-6 c =
@@ -61,8 +63,8 @@ returns-6 c =
     let known = ap not (sym (listed (e .before))) ∙ e .if3 .left in
     let right = sym (timed (d .before)) ∙ d .if4 .left in
     let r = e .before .before .before .before .before .before .args .row in
-    let few : r .outages < 65535 = omega (arith, c .if5 .left) in
-    sym (rw (eq-eqb _ _ (e .before .before .before .before .if1 .left), e .before .before .before .if2 .left, known, right, lt-leb 65535 (r .outages) few))
+    let few : r .outages < mostOutages = omega (arith, c .if5 .left) in
+    sym (rw (eq-eqb _ _ (e .before .before .before .before .if1 .left), e .before .before .before .if2 .left, known, right, lt-leb mostOutages (r .outages) few))
 
 pub outage-answer-spec : {M : Type 1} → statement M
 outage-answer-spec =

@@ -7,6 +7,7 @@ use lib.Dec.{leb}
 use lib.ListN.{drop}
 use borrow.Author.Tests.{le-leb, lt-leb}
 use Rattle.base.specs.First.{first}
+use Rattle.codes.specs.Ranges.{mostEvents}
 use Rattle.limits.specs.Limits.{aboveLevel}
 use Rattle.record.specs.Inside.{simpleTests}
 use Rattle.record.proofs.JudgeLaws.{met, passed}
@@ -69,7 +70,7 @@ at-13 c = (λ i. cond (c .is-none-then-some .ensures i) 13 (rest-13 c 6)) ∙ pa
 at-14 : (c : tie.After-is-marked) → cond (c .is-marked .result) 14 (rest-14 c 7) ≡ rest-14 c 0
 at-14 c = (λ i. cond (c .is-marked .ensures i) 14 (rest-14 c 7)) ∙ passed 13 _ (at-13 (c .before .before)) (c .before .if6 .left)
 
-at-15 : (c : tie.Else7) → cond (leb 65535 (c .before .before .before .before .before .before .before .before .before .before .before .before .before .before .before .before .before .before .before .before .before .before .before .args .events)) 15 0 ≡ rest-14 (c .before) 0
+at-15 : (c : tie.Else7) → cond (leb mostEvents (c .before .before .before .before .before .before .before .before .before .before .before .before .before .before .before .before .before .before .before .before .before .before .before .args .events)) 15 0 ≡ rest-14 (c .before) 0
 at-15 c = passed 14 _ (at-14 (c .before)) (c .if7 .left)
 
 returns : tie.Need-returns

@@ -2,6 +2,7 @@
 use mathlib.Core.Path.{_∙_}
 use mathlib.Core.Bool.{_||_, not, cond}
 use lib.Dec.{leb}
+use Rattle.codes.specs.Ranges.{mostEvents}
 use Rattle.limits.specs.Limits.{figuresAbove}
 use Rattle.record.specs.Inside.{firstOf}
 use borrow.Author.Needs.{needs}
@@ -19,7 +20,7 @@ returns c =
     let level = high .before in
     let a = level .before .before .before .before .before .args in
     let above = high .figures-above .ensures ∙ (λ i. figuresAbove (level .level-of .ensures i) (a .w .course .figures)) in
-    let others = rest .first-of-four .ensures ∙ (λ i. cond (above i) 12 (cond (used .is-marked .ensures i) 14 (cond (leb 65535 (a .events)) 15 0))) in
+    let others = rest .first-of-four .ensures ∙ (λ i. cond (above i) 12 (cond (used .is-marked .ensures i) 14 (cond (leb mostEvents (a .events)) 15 0))) in
     c .first-of .ensures ∙
     (λ i. firstOf (not (a .sheet .there)) (not (known .listed .ensures i)) (leb (begins .minutes-in .ensures i) (a .head .t0) || a .w .late) (over .figures-exceed .ensures i) (others i))
 

@@ -6,7 +6,7 @@ use lib.ListN.{length}
 use lib.Dec.{eqb}
 use borrow.Author.Tests.{eqb-false, not-false}
 use Rattle.base.proofs.TestLaws.{or-right}
-use Rattle.used_numbers.specs.Marks.{markedWith}
+use Rattle.used_numbers.specs.Marks.{markedWith, mapSize}
 use Rattle.verdict.specs.declared.Verdict.{Verdict}
 use Rattle.record.proofs.JudgeLaws.{verdict-answer}
 use Rattle.ledger.specs.Ledger.{added}
@@ -19,8 +19,8 @@ use Rattle.ledger.proofs.Ledger.take.Statement.{statement}
 use Rattle.ledger.proofs.Ledger.take.Tie as tie
 
 -- the test at the start is that of refusal 1
-tested : (c : tie.After-sound) → (not (eqb (length (c .before .before .before .args .map .now)) 8192) || not (c .sound .result)) ≡ unsound (c .before .before .before .args .self) (c .before .before .before .args .map .now)
-tested c = λ i. not (eqb (length (c .before .before .before .args .map .now)) 8192) || not (c .sound .ensures i)
+tested : (c : tie.After-sound) → (not (eqb (length (c .before .before .before .args .map .now)) mapSize) || not (c .sound .result)) ≡ unsound (c .before .before .before .args .self) (c .before .before .before .args .map .now)
+tested c = λ i. not (eqb (length (c .before .before .before .args .map .now)) mapSize) || not (c .sound .ensures i)
 
 fine : (c : tie.Else1) → unsound (c .before .before .before .before .args .self) (c .before .before .before .before .args .map .now) ≡ false
 fine c = sym (tested (c .before)) ∙ c .if1 .left
@@ -36,7 +36,7 @@ returns c =
 add-requires : tie.Need-add-requires
 add-requires c κs =
     let a = c .before .before .before .before .before .before .before .before .before .before .before .args in
-    let sound = not-false _ (or-right (not (eqb (length (a .map .now)) 8192)) _ (fine (c .before .before .before .before .before .before .before))) in
+    let sound = not-false _ (or-right (not (eqb (length (a .map .now)) mapSize)) _ (fine (c .before .before .before .before .before .before .before))) in
     subst⁻¹ (Fits (a .self)) (c .before .before .before .before .judge .ensures) (verdict-fits (a .self) (a .map .now) (a .bytes .now) sound)
 
 returns-2 : tie.Need-returns-2

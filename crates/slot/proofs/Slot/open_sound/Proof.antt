@@ -7,6 +7,7 @@ use lib.Dec.{leb, ltb, eqb}
 use native.Mathlib.Omega.{arith}
 use borrow.Author.Tests.{leb-false, ltb-false, le-ltb, lt-leb, not-true, not-false}
 use Rattle.base.proofs.ChainLaws.{each-fails}
+use Rattle.codes.specs.Ranges.{latest}
 use Rattle.fields.specs.Tests.{headListed}
 use Rattle.limits.specs.Limits.{figuresAbove}
 use Rattle.slot.specs.declared.Slot.{Slot}
@@ -22,14 +23,14 @@ refuted s t f k = not-open s (λ o. true≢false (sym (k o) ∙ f))
 
 -- the times and the steps, as code tests them: one is out of its bounds
 abbrev astray : Slot → Bool
-astray s = leb 527040 (s .head .t0) || ltb (s .last) (s .head .t0) || ltb 600000 (s .last) || ltb 64 (s .steps)
+astray s = leb 527040 (s .head .t0) || ltb (s .last) (s .head .t0) || ltb latest (s .last) || ltb 64 (s .steps)
 
 open-near : (s : Slot) → openSound s ≡ true → astray s ≡ false
-open-near s o = λ i. lt-leb 527040 (s .head .t0) (open-begins s o) i || le-ltb (s .last) (s .head .t0) (open-in-order s o) i || le-ltb 600000 (s .last) (open-ends s o) i || le-ltb 64 (s .steps) (open-steps s o) i
+open-near s o = λ i. lt-leb 527040 (s .head .t0) (open-begins s o) i || le-ltb (s .last) (s .head .t0) (open-in-order s o) i || le-ltb latest (s .last) (open-ends s o) i || le-ltb 64 (s .steps) (open-steps s o) i
 
-near : (s : Slot) → astray s ≡ false → (s .head .t0 < 527040) × (s .head .t0 ≤ s .last) × (s .last ≤ 600000) × (s .steps ≤ 64)
+near : (s : Slot) → astray s ≡ false → (s .head .t0 < 527040) × (s .head .t0 ≤ s .last) × (s .last ≤ latest) × (s .steps ≤ 64)
 near s e =
-    let k = each-fails (leb 527040 (s .head .t0)) (ltb (s .last) (s .head .t0) ∷ ltb 600000 (s .last) ∷ ltb 64 (s .steps) ∷ []) e in
+    let k = each-fails (leb 527040 (s .head .t0)) (ltb (s .last) (s .head .t0) ∷ ltb latest (s .last) ∷ ltb 64 (s .steps) ∷ []) e in
     (leb-false _ (s .head .t0) (k .0), ltb-false (s .last) (s .head .t0) (k .1 .0), ltb-false _ (s .last) (k .1 .1 .0), ltb-false _ (s .steps) (k .1 .1 .1 .0))
 
 returns : tie.Need-returns
