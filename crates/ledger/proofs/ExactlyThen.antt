@@ -13,12 +13,12 @@ use Rattle.ledger.specs.declared.Ledger.{Ledger}
 use Rattle.ledger.specs.Take.{takeRules, answerOf}
 
 module _ (l : Ledger) (m s : List ℕ) where
-  rising : Rising 0 (takeRules l m s)
-  rising = (tt, (tt, (tt, (tt, (tt, (tt, (tt, (tt, (tt, (tt, (tt, (tt, (tt, tt)))))))))))))
+  rules-rise : Rising 0 (takeRules l m s)
+  rules-rise = (tt, (tt, (tt, (tt, (tt, (tt, (tt, (tt, (tt, (tt, (tt, (tt, (tt, tt)))))))))))))
 
   pub exactly : (n : ℕ) → (answerOf l m s ≡ n) ↔ Foremost n (takeRules l m s)
   unfolding answerOf
-  exactly n = exactly-then n (takeRules l m s) rising
+  exactly n = exactly-then n (takeRules l m s) rules-rise
 
   pub exactly-no-other : listed (answerOf l m s) (0 ∷ 1 ∷ 2 ∷ 3 ∷ 4 ∷ 5 ∷ 6 ∷ 7 ∷ 10 ∷ 11 ∷ 12 ∷ 13 ∷ 14 ∷ 15 ∷ []) ≡ true
   unfolding answerOf
@@ -27,13 +27,13 @@ module _ (l : Ledger) (m s : List ℕ) where
   -- by the rules' numbers: none applies to an accepted record
   pub accepted-rules : answerOf l m s ≡ 0 → NoRule (takeRules l m s)
   unfolding answerOf
-  accepted-rules a = clear-at (takeRules l m s) (clear 0 (takeRules l m s) rising a)
+  accepted-rules a = clear-at (takeRules l m s) (clear 0 (takeRules l m s) rules-rise a)
 
   -- and where a number is answered, what it stands for applies, and nothing that a smaller number stands for
   pub answered : (n : ℕ) → answerOf l m s ≡ n → (n ≡ 0 → ⊥) → ruleOf n (takeRules l m s) ≡ true
   unfolding answerOf
-  answered n e z = answered-rule n (takeRules l m s) e z 0 rising
+  answered n e z = answered-rule n (takeRules l m s) e z 0 rules-rise
 
   pub passed-over : (n i : ℕ) → answerOf l m s ≡ n → i < n → ruleOf i (takeRules l m s) ≡ false
   unfolding answerOf
-  passed-over n i e l′ = passed-rule n i l′ (takeRules l m s) e 0 rising
+  passed-over n i e l′ = passed-rule n i l′ (takeRules l m s) e 0 rules-rise
