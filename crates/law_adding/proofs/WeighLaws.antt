@@ -1,7 +1,7 @@
 -- The levels' indices weighed by their N add up to the network's: an index times its N is the sum above its line, over 1 or 2, and these sums add.
 -- Assumes nothing.
 use Prim.Native.Nat.{ℕ, _*_, _<_}
-use mathlib.Core.Path.{_≡_, sym, ap, subst, _∙_}
+use mathlib.Core.Path.{_≡_, refl, sym, ap, subst, _∙_}
 use mathlib.Core.List.{map}
 use mathlib.Core.Bool.{true}
 use lib.Dec.{eqb}
@@ -16,16 +16,17 @@ use Rattle.ratio.specs.Lowest.{lowestOf}
 use Rattle.ratio.proofs.Euclid.{lowest-same, lowest-lowest}
 use Rattle.ratio.proofs.SameLaws.{same-transitive}
 use Rattle.codes.specs.declared.Set.{Set}
-use Rattle.annex.specs.Figure.{Off, Halves}
+use Rattle.ledger.specs.declared.Cell.{Cell}
 use Rattle.ledger.specs.declared.Ledger.{Ledger}
 use Rattle.ledger.specs.Sound.{soundLedger}
 use Rattle.index.specs.declared.Level.{Level}
 use Rattle.index.specs.declared.Level.the-variants.{Network}
+use Rattle.index.specs.declared.Index.{Index}
 use Rattle.index.specs.declared.Index.the-variants.{Saifi, Saidi}
 use Rattle.index.specs.declared.Answer.{Answer}
 use Rattle.index.specs.declared.Answer.the-variants.{Is, Refused}
 use Rattle.index.specs.Sums.{customersOf}
-use Rattle.index.specs.Index.{formulaOf, indexOf}
+use Rattle.index.specs.Index.{aboveOf, divisorOf, weightOf, indexOf}
 use Rattle.index.proofs.IndexLaws.{nobody-refused, somebody-answered}
 use Rattle.law_adding.specs.Parts.{eachLevel, overEach, timesN}
 use Rattle.law_adding.specs.Adding.{totalHeld, NobodyOff, LevelsWeigh}
@@ -98,37 +99,37 @@ module _
     there : l .sheet .there ≡ true
     there = served-by-sheet l sound Network somebody
 
-    -- where the network has customers and a level without any has nobody interrupted, SAIFI times N adds over the levels; so does SAIDI
+    -- where the network has customers and a level without any has nobody interrupted, an index that divides by N adds, times N, over the levels
+    module _ (index : Index) (by-n : (sum : Cell) (n : ℕ) → divisorOf index sum n ≡ n) (weighs : weightOf index ≡ 0 → ⊥) where
+      abbrev n : Level → ℕ
+      n = customersOf (l .sheet .totals)
+
+      abbrev top : Level → ℕ
+      top h = totalHeld (aboveOf index) l h set
+
+      answered : (h : Level) → (n h ≡ 0 → ⊥) → indexOf l index h set ≡ Is (lowestOf (top h) (weightOf index * n h))
+      answered h some =
+          somebody-answered l index h set sound there (λ z. some (sym (by-n _ (n h)) ∙ z)) ∙
+          ap (λ (d : ℕ). Is (lowestOf (top h) (weightOf index * d))) (by-n _ (n h))
+
+      levels-weigh : LevelsWeigh l index set
+      levels-weigh =
+          let adds =
+          all-shares (weightOf index) weighs (λ (h : Level). indexOf l index h set) top n answered
+          (λ h z. (nobody-refused l index h set sound there (by-n _ (n h) ∙ z), off h z (aboveOf index)))
+          (omega (arith, levels-add l set .figures (aboveOf index))) in
+          record {
+            network = lowestOf (top Network) (weightOf index * n Network);
+            is-network = answered Network somebody;
+            of-level = λ h. lowestOf (top h) (weightOf index * n h);
+            is-level = answered;
+            exists = adds .0;
+            shares-add = adds .1;
+          }
+
+    -- SAIFI and SAIDI do
     pub saifi-weighs : LevelsWeigh l Saifi set
-    saifi-weighs =
-        let adds =
-        all-shares 1 (omega arith) (λ (h : Level). indexOf l Saifi h set) (λ (h : Level). totalHeld Off l h set)
-        (customersOf (l .sheet .totals))
-        (λ h. somebody-answered l Saifi h set sound there)
-        (λ h z. (nobody-refused l Saifi h set sound there z, off h z Off))
-        (omega (arith, levels-add l set .figures Off)) in
-        record {
-          network = lowestOf (formulaOf l Saifi Network set .top) (formulaOf l Saifi Network set .bottom);
-          is-network = somebody-answered l Saifi Network set sound there somebody;
-          of-level = λ h. lowestOf (formulaOf l Saifi h set .top) (formulaOf l Saifi h set .bottom);
-          is-level = λ h. somebody-answered l Saifi h set sound there;
-          exists = adds .0;
-          shares-add = adds .1;
-        }
+    saifi-weighs = levels-weigh Saifi (λ _ _. refl) (omega arith)
 
     pub saidi-weighs : LevelsWeigh l Saidi set
-    saidi-weighs =
-        let adds =
-        all-shares 2 (omega arith) (λ (h : Level). indexOf l Saidi h set) (λ (h : Level). totalHeld Halves l h set)
-        (customersOf (l .sheet .totals))
-        (λ h. somebody-answered l Saidi h set sound there)
-        (λ h z. (nobody-refused l Saidi h set sound there z, off h z Halves))
-        (omega (arith, levels-add l set .figures Halves)) in
-        record {
-          network = lowestOf (formulaOf l Saidi Network set .top) (formulaOf l Saidi Network set .bottom);
-          is-network = somebody-answered l Saidi Network set sound there somebody;
-          of-level = λ h. lowestOf (formulaOf l Saidi h set .top) (formulaOf l Saidi h set .bottom);
-          is-level = λ h. somebody-answered l Saidi h set sound there;
-          exists = adds .0;
-          shares-add = adds .1;
-        }
+    saidi-weighs = levels-weigh Saidi (λ _ _. refl) (omega arith)
