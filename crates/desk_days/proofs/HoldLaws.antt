@@ -3,9 +3,10 @@
 use Prim.Native.Nat.{ℕ, _+_, _-_, _≤_}
 use mathlib.Core.Path.{_≡_, refl, sym, ap, subst, _∙_}
 use mathlib.Core.List.{List, [], _∷_, _++_}
-use mathlib.Core.Bool.{Bool, false}
+use mathlib.Core.Bool.{Bool, false, _||_}
 use lib.ListN.{length, length-append}
 use Rattle.base.specs.Lists.{any}
+use Rattle.base.proofs.ListLaws.{any-append}
 use Rattle.base.proofs.TestLaws.{or-left, or-right, or-both}
 use Rattle.codes.specs.Codes.{levelOf}
 use Rattle.annex.specs.declared.Step.{Step}
@@ -37,8 +38,7 @@ late-snoc before (s ∷ ss) st a b =
     (late-snoc (s .time) ss st (or-right (lateStep before (s .time)) (anyLate (s .time) ss) a) b)
 
 any-snoc : {A : Type 0} (f : A → Bool) (xs : List A) (y : A) → any f xs ≡ false → f y ≡ false → any f (xs ++ y ∷ []) ≡ false
-any-snoc f [] y a b = or-both (f y) false b refl
-any-snoc f (x ∷ xs) y a b = or-both (f x) (any f (xs ++ y ∷ [])) (or-left (f x) (any f xs) a) (any-snoc f xs y (or-right (f x) (any f xs) a) b)
+any-snoc f xs y a b = any-append f xs (y ∷ []) ∙ or-both (any f xs) (f y || false) a (or-both (f y) false b refl)
 
 module _ (e : SteppedEvent) (st : Step) where
   -- a step taken by the slot that holds an event makes it the slot that holds the event with this step last

@@ -33,7 +33,7 @@ use Rattle.desk_scan.proofs.SearchLaws.{set-cases, numbers-length, numbers-at, 
 use Rattle.desk_days.specs.Day.{State, booked, after}
 use Rattle.desk_days.specs.Story.{Deed, opens, steps, closes, takes, SteppedEvent, eventFor, about, openDeeds, openings, closings, recordOf, completeIn, slotHolding, markedAll, Once}
 use Rattle.desk_days.proofs.EncodeLaws.{InBytes, Passed, record-taken}
-use Rattle.desk_days.proofs.StoryLaws.{all-map, all-both, all-snoc, once-snoc, named, named-snoc, openings-snoc, closings-snoc, openings-named, closings-named, Spares, withLast, event-spared, event-closed, event-stepped, event-opened, about-spared, order-opened, order-stepped, order-closed, complete-more}
+use Rattle.desk_days.proofs.StoryLaws.{all-map, all-both, all-snoc, once-snoc, named, named-snoc, openings-snoc, closings-append, openings-named, closings-named, Spares, withLast, event-spared, event-closed, event-stepped, event-opened, about-spared, order-opened, order-stepped, order-closed, complete-more}
 use Rattle.desk_days.proofs.HoldLaws.{holding-stepped, passed-stepped}
 use Rattle.desk_days.proofs.OpenMarks.{all-size, all-other, all-through, all-in, all-out, still-marked, not-before}
 use Rattle.desk_days.proofs.EntryLaws.{numberMarked, entry-ledger, entry-map, entry-sheet, entry-other, entry-again}
@@ -194,7 +194,7 @@ module _ (l₀ : Ledger) (m₀ : List ℕ) (ds : List Deed) (st : State) (k : Ke
         records = complete-more ds d others ∙ append-nil (completeIn ds ds)
 
         no-close : closings (ds ++ d ∷ []) ≡ closings ds
-        no-close = closings-snoc ds d ∙ append-nil (closings ds)
+        no-close = closings-append ds (d ∷ []) ∙ append-nil (closings ds)
 
         marked-now : marked (markedWith (st .map) n) n ≡ true
         marked-now = markedWith-same (st .map) n size (p .in-bytes .head .number) nonzero
@@ -300,7 +300,7 @@ module _ (l₀ : Ledger) (m₀ : List ℕ) (ds : List Deed) (st : State) (k : Ke
           records = complete-more ds d not-closed ∙ append-nil (completeIn ds ds)
 
           no-close : closings (ds ++ d ∷ []) ≡ closings ds
-          no-close = closings-snoc ds d ∙ append-nil (closings ds)
+          no-close = closings-append ds (d ∷ []) ∙ append-nil (closings ds)
 
           event : eventFor (ds ++ d ∷ []) (numberAt x) ≡ withLast (eventFor ds (numberAt x)) sp
           event =
@@ -374,7 +374,7 @@ module _ (l₀ : Ledger) (m₀ : List ℕ) (ds : List Deed) (st : State) (k : Ke
                 subst (All (λ v. marked (st .map) v ≡ true)) (sym (named-snoc ds d))
                 (all-snoc (λ v. marked (st .map) v ≡ true) (named ds) n (k .seen) (subst (λ v. marked (st .map) v ≡ true) number (holds-it .used)));
             shut =
-                subst (All (λ v. (j : ℕ) → numberAt (at (set (st .desk) i freeSlot) j) ≢ v)) (sym (closings-snoc ds d))
+                subst (All (λ v. (j : ℕ) → numberAt (at (set (st .desk) i freeSlot) j) ≢ v)) (sym (closings-append ds (d ∷ [])))
                 (all-snoc (λ v. (j : ℕ) → numberAt (at (set (st .desk) i freeSlot) j) ≢ v) (closings ds) n
                 (all-map
                 (λ v f j.
@@ -387,9 +387,9 @@ module _ (l₀ : Ledger) (m₀ : List ℕ) (ds : List Deed) (st : State) (k : Ke
                 (λ _ q. nonzero (sym q))
                 (λ q r. elsewhere j q (sym r))));
             opened-once = subst Once (sym (openings-snoc ds d ∙ append-nil (openings ds))) (k .opened-once);
-            closed-once = subst Once (sym (closings-snoc ds d)) (once-snoc (closings ds) n (k .closed-once) not-closed);
+            closed-once = subst Once (sym (closings-append ds (d ∷ []))) (once-snoc (closings ds) n (k .closed-once) not-closed);
             told =
-                subst (All (ToldOf (ds ++ d ∷ []))) (sym (closings-snoc ds d))
+                subst (All (ToldOf (ds ++ d ∷ []))) (sym (closings-append ds (d ∷ [])))
                 (all-snoc (ToldOf (ds ++ d ∷ [])) (closings ds) n (all-both (told-on ds d) (closings ds) not-closed (k .told)) told-now);
           }
         where
@@ -498,7 +498,7 @@ module _ (l₀ : Ledger) (m₀ : List ℕ) (ds : List Deed) (st : State) (k : Ke
         records = complete-more ds (takes s) (all-map (λ v _. tt) (closings ds) closed-marked)
 
         no-close : closings (ds ++ takes s ∷ []) ≡ closings ds
-        no-close = closings-snoc ds (takes s) ∙ append-nil (closings ds)
+        no-close = closings-append ds (takes s ∷ []) ∙ append-nil (closings ds)
 
         still : (v : ℕ) → marked (st .map) v ≡ true → marked (mapAfter (st .ledger) (st .map) s) v ≡ true
         still v e = ap (λ (m : List ℕ). marked m v) (entry-map (st .ledger) (st .map) s a) ∙ still-marked (st .map) n v e

@@ -7,6 +7,7 @@ use lib.ListN.{length, getD, set, replicate}
 use lib.Dec.{eqb}
 use borrow.Author.Tests.{eqb-true, eqb-false}
 use Rattle.base.specs.Lists.{All, Bytes}
+use Rattle.base.proofs.ListLaws.{all-alike}
 use Rattle.base.proofs.TestLaws.{Tested, holds, fails, test}
 use Rattle.wire.proofs.ByteLaws.{le16-below}
 use Rattle.used_numbers.specs.Marks.{marked, markedWith, mapSize}
@@ -23,6 +24,7 @@ use Rattle.desk_scan.proofs.SearchLaws.{empty-sound}
 use Rattle.desk_rules.specs.Rules.{stepIn}
 use Rattle.desk_days.specs.Day.{State, Arrival, message, booked, bytesOf, after, afterAll, Sound, Marked}
 use Rattle.desk_days.specs.Story.{emptyDay}
+use Rattle.desk_days.proofs.StoryLaws.{all-map}
 use Rattle.desk_days.proofs.OpenMarks.{still-marked}
 use Rattle.desk_days.proofs.AfterLaws.{IsOpened, IsStepped, IsClosed, withOpened, withStepped, withClosed, message-cases}
 use Rattle.desk_days.proofs.SoundDay.{sound-stays-sound, sound-throughout}
@@ -59,8 +61,7 @@ marked-set m (s ∷ d) zero a k h = (h, k .1)
 marked-set m (s ∷ d) (suc i) a k h = (k .0, marked-set m d i a (k .1) h)
 
 marked-more : (m n : List ℕ) (d : List Slot) → ((v : ℕ) → marked m v ≡ true → marked n v ≡ true) → All (MarkedIn m) d → All (MarkedIn n) d
-marked-more m n [] h k = tt
-marked-more m n (s ∷ d) h k = (λ z. h (numberAt s) (k .0 z), marked-more m n d h (k .1))
+marked-more m n d h k = all-map (λ s is z. h (numberAt s) (is z)) d k
 
 -- where every open number of a sound state is marked, it is so after an arrival of bytes, and after any sequence of them
 pub marks-kept : (st : State) → Sound st → Marked st → (a : Arrival) → Bytes (bytesOf a) → Marked (after st a)
@@ -90,8 +91,7 @@ marked-throughout st sound k (a ∷ as′) b =
 
 -- free slots have no number to mark
 pub marked-none : (m : List ℕ) (n : ℕ) → All (MarkedIn m) (replicate n freeSlot)
-marked-none m zero = tt
-marked-none m (suc n) = (λ z. absurd (z refl), marked-none m n)
+marked-none m n = all-alike (MarkedIn m) n freeSlot (λ z. absurd (z refl))
 
 module _ (l : Ledger) (m : List ℕ) where
   pub empty-marked : Marked (emptyDay l m)

@@ -22,14 +22,10 @@ use Rattle.desk_scan.proofs.SearchLaws.{missing, desk-slots}
 use Rattle.desk_days.specs.Day.{State, Arrival, message, booked, bytesOf, answerTo, after, Sound, Marked}
 use Rattle.desk_days.specs.Story.{Deed, opens, steps, closes, takes, openings, Once}
 use Rattle.desk_days.specs.Late.{told, usings}
+use Rattle.desk_days.proofs.StoryLaws.{all-map}
 use Rattle.desk_days.proofs.AfterLaws.{IsOpened, withOpened, withStepped, withClosed, EventTaken, telling-cases, entering-cases}
 use Rattle.desk_days.proofs.SoundDay.{size-right}
 use Rattle.desk_days.proofs.MarkedDay.{marks-stay, marked-at}
-
--- what holds of each holds of each
-each-other : {A : Type 0} {P Q : A → Type 0} → ((x : A) → P x → Q x) → (xs : List A) → All P xs → All Q xs
-each-other f [] k = tt
-each-other f (x ∷ xs) k = (f x (k .0), each-other f xs (k .1))
 
 -- a number that can be used
 abbrev pub Unused : List ℕ → ℕ → Type 0
@@ -57,7 +53,7 @@ used-unmarked st (message s ∷ as′) =
     (λ _ _. used-unmarked st as′)
     (λ _ _ o back. (
       (listed-number (headIn s) (o .head-listed), o .unmarked),
-      each-other back (usings (told (withOpened st s) as′)) (used-unmarked (withOpened st s) as′),
+      all-map back (usings (told (withOpened st s) as′)) (used-unmarked (withOpened st s) as′),
     ))
     (λ _ _ o _. used-unmarked (withStepped st s) as′)
     (λ _ _ o _. used-unmarked (withClosed st s) as′)
@@ -65,8 +61,8 @@ used-unmarked st (message s ∷ as′) =
 used-unmarked st (booked s ∷ as′) =
     entering-cases st s as′ (λ t ds. ((v : ℕ) → Unused (t .map) v → Unused (st .map) v) → All (Unused (st .map)) (usings ds))
     (λ _ _. used-unmarked st as′)
-    (λ _ k o back. subst (All (Unused (st .map))) (sym (usings-sheet s rest k)) (each-other back (usings rest) (used-unmarked (after st (booked s)) as′)))
-    (λ _ k o back. subst (All (Unused (st .map))) (sym (usings-event s rest k)) ((listed-number (headIn s) (o .head-listed), o .unmarked), each-other back (usings rest) (used-unmarked (after st (booked s)) as′)))
+    (λ _ k o back. subst (All (Unused (st .map))) (sym (usings-sheet s rest k)) (all-map back (usings rest) (used-unmarked (after st (booked s)) as′)))
+    (λ _ k o back. subst (All (Unused (st .map))) (sym (usings-event s rest k)) ((listed-number (headIn s) (o .head-listed), o .unmarked), all-map back (usings rest) (used-unmarked (after st (booked s)) as′)))
     (unused-before (st .map) (after st (booked s) .map) (marks-stay st (booked s)))
   where
     rest : List Deed
@@ -75,7 +71,7 @@ used-unmarked st (booked s ∷ as′) =
 -- a number that is marked is not used after that
 pub not-again : (st : State) (as′ : List Arrival) (v : ℕ) → marked (st .map) v ≡ true → All (λ w. w ≡ v → ⊥) (usings (told st as′))
 not-again st as′ v e =
-    each-other {Q = λ w. w ≡ v → ⊥} (λ w u q. true≢false (sym e ∙ ap (marked (st .map)) (sym q) ∙ u .1)) (usings (told st as′)) (used-unmarked st as′)
+    all-map {Q = λ w. w ≡ v → ⊥} (λ w u q. true≢false (sym e ∙ ap (marked (st .map)) (sym q) ∙ u .1)) (usings (told st as′)) (used-unmarked st as′)
 
 -- no number is used twice by accepted opens and book events
 pub used-once : (st : State) (as′ : List Arrival) → All (λ a. Bytes (bytesOf a)) as′ → Once (usings (told st as′))
@@ -151,5 +147,5 @@ pub at-most-one-open :
 at-most-one-open st sound k as′ b = (
   openings-once (told st as′) (used-once st as′ b),
   openings-all (λ v. (marked (st .map) v ≡ false) × (slotCount ≤ placeOf v (st .desk))) (told st as′)
-      (each-other (λ v u. (u .1, unmarked-not-open st sound k v u)) (usings (told st as′)) (used-unmarked st as′)),
+      (all-map (λ v u. (u .1, unmarked-not-open st sound k v u)) (usings (told st as′)) (used-unmarked st as′)),
 )

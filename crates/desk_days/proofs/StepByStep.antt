@@ -123,7 +123,7 @@ module _ (l₀ : Ledger) (m₀ : List ℕ) where
       go false e f = f ds (subst (Kept l₀ m₀ ds) (sym (refused-after st a (eqb-false _ _ e))) k)
 
 -- the start: an empty desk
-empty-at : (n i : ℕ) → getD (replicate n freeSlot) i freeSlot ≡ freeSlot
+pub empty-at : (n i : ℕ) → getD (replicate n freeSlot) i freeSlot ≡ freeSlot
 empty-at zero i = refl
 empty-at (suc n) zero = refl
 empty-at (suc n) (suc i) = empty-at n i

@@ -8,6 +8,7 @@ use mathlib.Core.Bool.{Bool, true, false, cond}
 use lib.Dec.{eqb}
 use borrow.Author.Tests.{eq-eqb, ne-eqb}
 use Rattle.base.specs.Lists.{All}
+use Rattle.base.proofs.ListLaws.{all-append}
 use Rattle.annex.specs.declared.Step.{Step}
 use Rattle.fields.specs.declared.Head.{Head}
 use Rattle.desk_days.specs.Story.{Deed, opens, steps, closes, takes, SteppedEvent, headFor, stepsFor, eventFor, openings, closings, names, about, openDeeds, recordOf, completeIn, Once}
@@ -28,8 +29,7 @@ all-of-map P f [] a = tt
 all-of-map P f (x ∷ xs) a = (a .0, all-of-map P f xs (a .1))
 
 pub all-snoc : {A : Type 0} (P : A → Type 0) (xs : List A) (y : A) → All P xs → P y → All P (xs ++ y ∷ [])
-all-snoc P [] y a p = (p, tt)
-all-snoc P (x ∷ xs) y a p = (a .0, all-snoc P xs y (a .1) p)
+all-snoc P xs y a p = all-append P xs (y ∷ []) a (p, tt)
 
 -- numbers of which none stands twice stay so with another one at the end
 pub once-snoc : (vs : List ℕ) (w : ℕ) → Once vs → All (λ v. w ≢ v) vs → Once (vs ++ w ∷ [])
@@ -45,7 +45,7 @@ named (steps w st ∷ ds) = w ∷ named ds
 named (closes w ∷ ds) = w ∷ named ds
 named (takes s ∷ ds) = named ds
 
--- the numbers named, closed and opened, with one deed more at the end
+-- the numbers named and opened, with one deed more at the end, and those closed, with any deeds
 pub named-snoc : (ds : List Deed) (d : Deed) → named (ds ++ d ∷ []) ≡ named ds ++ named (d ∷ [])
 named-snoc [] d = refl
 named-snoc (opens h ∷ ds) d = ap (λ vs. h .number ∷ vs) (named-snoc ds d)
@@ -53,12 +53,12 @@ named-snoc (steps w st ∷ ds) d = ap (λ vs. w ∷ vs) (named-snoc ds d)
 named-snoc (closes w ∷ ds) d = ap (λ vs. w ∷ vs) (named-snoc ds d)
 named-snoc (takes s ∷ ds) d = named-snoc ds d
 
-pub closings-snoc : (ds : List Deed) (d : Deed) → closings (ds ++ d ∷ []) ≡ closings ds ++ closings (d ∷ [])
-closings-snoc [] d = refl
-closings-snoc (opens h ∷ ds) d = closings-snoc ds d
-closings-snoc (steps w st ∷ ds) d = closings-snoc ds d
-closings-snoc (closes w ∷ ds) d = ap (λ vs. w ∷ vs) (closings-snoc ds d)
-closings-snoc (takes s ∷ ds) d = closings-snoc ds d
+pub closings-append : (ds es : List Deed) → closings (ds ++ es) ≡ closings ds ++ closings es
+closings-append [] es = refl
+closings-append (opens h ∷ ds) es = closings-append ds es
+closings-append (steps w st ∷ ds) es = closings-append ds es
+closings-append (closes w ∷ ds) es = ap (λ vs. w ∷ vs) (closings-append ds es)
+closings-append (takes s ∷ ds) es = closings-append ds es
 
 pub openings-snoc : (ds : List Deed) (d : Deed) → openings (ds ++ d ∷ []) ≡ openings ds ++ openings (d ∷ [])
 openings-snoc [] d = refl
@@ -227,14 +227,16 @@ order-closed v ds e o = about-named v ds (closes v) (eq-eqb v v refl) ∙ ap (λ
 
 -- ---- the complete records
 
-complete-snoc : (all ds : List Deed) (d : Deed) → completeIn all (ds ++ d ∷ []) ≡ completeIn all ds ++ completeIn all (d ∷ [])
-complete-snoc all [] d = refl
-complete-snoc all (opens h ∷ ds) d = complete-snoc all ds d
-complete-snoc all (steps w st ∷ ds) d = complete-snoc all ds d
-complete-snoc all (closes w ∷ ds) d = ap (λ rs. recordOf (eventFor all w) ∷ rs) (complete-snoc all ds d)
-complete-snoc all (takes s ∷ ds) d = ap (λ rs. s ∷ rs) (complete-snoc all ds d)
+-- with further deeds at the end
+pub complete-append : (all ds es : List Deed) → completeIn all (ds ++ es) ≡ completeIn all ds ++ completeIn all es
+complete-append all [] es = refl
+complete-append all (opens h ∷ ds) es = complete-append all ds es
+complete-append all (steps w st ∷ ds) es = complete-append all ds es
+complete-append all (closes w ∷ ds) es = ap (λ rs. recordOf (eventFor all w) ∷ rs) (complete-append all ds es)
+complete-append all (takes s ∷ ds) es = ap (λ rs. s ∷ rs) (complete-append all ds es)
 
-complete-same : (a b ds : List Deed) → All (λ v. eventFor a v ≡ eventFor b v) (closings ds) → completeIn a ds ≡ completeIn b ds
+-- and with the same event for each number closed
+pub complete-same : (a b ds : List Deed) → All (λ v. eventFor a v ≡ eventFor b v) (closings ds) → completeIn a ds ≡ completeIn b ds
 complete-same a b [] e = refl
 complete-same a b (opens h ∷ ds) e = complete-same a b ds e
 complete-same a b (steps w st ∷ ds) e = complete-same a b ds e
@@ -247,6 +249,6 @@ pub complete-more :
     All (λ v. Spares v d) (closings ds) →
     completeIn (ds ++ d ∷ []) (ds ++ d ∷ []) ≡ completeIn ds ds ++ completeIn (ds ++ d ∷ []) (d ∷ [])
 complete-more ds d a =
-    complete-snoc (ds ++ d ∷ []) ds d ∙
+    complete-append (ds ++ d ∷ []) ds (d ∷ []) ∙
     ap (λ rs. rs ++ completeIn (ds ++ d ∷ []) (d ∷ []))
     (complete-same (ds ++ d ∷ []) ds ds (all-map (λ v n. event-spared v ds d n) (closings ds) a))

@@ -1,6 +1,6 @@
 -- An event that passes the book's rules, at a desk that is empty: its open, each of its steps and its close are accepted, since the desk's rules ask of
 -- each message what the book's rules ask of the whole event; and the close adds what the event's record adds. Assumes nothing.
-use Prim.Native.Nat.{ℕ, zero, suc, _+_, _<_, _≤_}
+use Prim.Native.Nat.{ℕ, suc, _+_, _<_, _≤_}
 use mathlib.Core.Path.{_≡_, refl, ap, _∙_, sym, subst}
 use mathlib.Core.Logic.{_≢_}
 use mathlib.Core.List.{List, [], _∷_, _++_, map, map-append}
@@ -36,6 +36,7 @@ use Rattle.desk_days.specs.Story.{SteppedEvent, slotHolding, emptyDay}
 use Rattle.desk_days.specs.Late.{steppedAll}
 use Rattle.desk_days.proofs.EncodeLaws.{Passed, verdictFor}
 use Rattle.desk_days.proofs.AfterLaws.{after-opened, after-stepped, after-closed}
+use Rattle.desk_days.proofs.StepByStep.{empty-at}
 use Rattle.desk_days.proofs.SoundDay.{not-unsound, sound-not-1, sound-stays-sound, sound-throughout}
 use Rattle.desk_days.proofs.FoldedDay.{all-steps}
 use Rattle.desk_runs.specs.Messages.{openOf, stepOf, closeOf, stepsOf, messagesFor}
@@ -58,11 +59,6 @@ module _ (w : ℕ) (x : Slot) (q : numberAt x ≡ w) where
 -- on an empty desk no number is found, and the first slot is free
 none-open : (v : ℕ) → v ≢ 0 → placeOf v emptyDesk ≡ slotCount
 none-open v n = missing v emptyDesk (λ i _ q. n (sym q ∙ ap numberAt (empty-at slotCount i)))
-  where
-    empty-at : (k i : ℕ) → getD (replicate k freeSlot) i freeSlot ≡ freeSlot
-    empty-at zero i = refl
-    empty-at (suc k) zero = refl
-    empty-at (suc k) (suc i) = empty-at k i
 
 -- ---- an event that passes the book's rules, under a ledger that is sound and has room, and a map in which its number is not marked
 

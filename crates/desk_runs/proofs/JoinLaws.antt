@@ -14,37 +14,11 @@ use Rattle.book.specs.Book as book
 use Rattle.book.specs.Book.{starting, takeAll}
 use Rattle.slot.specs.Slot.{freeSlot}
 use Rattle.desk_days.specs.Day.{State, Arrival, bytesOf, answerTo, after, afterAll, acceptedOf}
-use Rattle.desk_days.specs.Story.{Deed, opens, steps, closes, takes, deedOf, SteppedEvent, eventFor, closings, names, about, openDeeds, recordOf, completeIn, emptyDay, NothingOpen}
+use Rattle.desk_days.specs.Story.{Deed, opens, steps, closes, takes, deedOf, SteppedEvent, eventFor, closings, names, about, openDeeds, completeIn, emptyDay, NothingOpen}
 use Rattle.desk_days.proofs.AfterLaws.{after-append}
+use Rattle.desk_days.proofs.StoryLaws.{all-both, closings-append, complete-append, complete-same}
 use Rattle.desk_days.proofs.StepByStep.{slots-reused, day-in-records, in-order}
 use Rattle.desk_runs.specs.Runs.{Builds}
-
--- ---- lists of deeds that are put together
-
-all-two : {A : Type 0} {P Q R : A → Type 0} → ((x : A) → P x → Q x → R x) → (xs : List A) → All P xs → All Q xs → All R xs
-all-two f [] a b = tt
-all-two f (x ∷ xs) a b = (f x (a .0) (b .0), all-two f xs (a .1) (b .1))
-
-closings-append : (xs ys : List Deed) → closings (xs ++ ys) ≡ closings xs ++ closings ys
-closings-append [] ys = refl
-closings-append (opens h ∷ xs) ys = closings-append xs ys
-closings-append (steps w st ∷ xs) ys = closings-append xs ys
-closings-append (closes w ∷ xs) ys = ap (λ vs. w ∷ vs) (closings-append xs ys)
-closings-append (takes s ∷ xs) ys = closings-append xs ys
-
-complete-append : (all xs ys : List Deed) → completeIn all (xs ++ ys) ≡ completeIn all xs ++ completeIn all ys
-complete-append all [] ys = refl
-complete-append all (opens h ∷ xs) ys = complete-append all xs ys
-complete-append all (steps w st ∷ xs) ys = complete-append all xs ys
-complete-append all (closes w ∷ xs) ys = ap (λ rs. recordOf (eventFor all w) ∷ rs) (complete-append all xs ys)
-complete-append all (takes s ∷ xs) ys = ap (λ rs. s ∷ rs) (complete-append all xs ys)
-
-complete-same : (a b ds : List Deed) → All (λ v. eventFor a v ≡ eventFor b v) (closings ds) → completeIn a ds ≡ completeIn b ds
-complete-same a b [] e = refl
-complete-same a b (opens h ∷ ds) e = complete-same a b ds e
-complete-same a b (steps w st ∷ ds) e = complete-same a b ds e
-complete-same a b (closes w ∷ ds) e = λ i. recordOf (e .0 i) ∷ complete-same a b ds (e .1) i
-complete-same a b (takes s ∷ ds) e = λ i. s ∷ complete-same a b ds e i
 
 -- ---- an event read from its deeds: the one that is told first, and the one that is told last
 
@@ -128,10 +102,10 @@ records-join xs ys a b c =
     let whole : All (InOrder (xs ++ ys)) (closings xs ++ closings ys) = subst (All (InOrder (xs ++ ys))) (closings-append xs ys) c in
     let before : completeIn (xs ++ ys) xs ≡ completeIn xs xs =
     complete-same (xs ++ ys) xs xs
-    (all-two (told-before xs ys) (closings xs) (all-front (InOrder (xs ++ ys)) (closings xs) (closings ys) whole) a) in
+    (all-both (told-before xs ys) (closings xs) (all-front (InOrder (xs ++ ys)) (closings xs) (closings ys) whole) a) in
     let behind : completeIn (xs ++ ys) ys ≡ completeIn ys ys =
     complete-same (xs ++ ys) ys ys
-    (all-two (told-after xs ys) (closings ys) (all-back (InOrder (xs ++ ys)) (closings xs) (closings ys) whole) b) in
+    (all-both (told-after xs ys) (closings ys) (all-back (InOrder (xs ++ ys)) (closings xs) (closings ys) whole) b) in
     complete-append (xs ++ ys) xs ys ∙ (λ i. before i ++ behind i)
 
 -- ---- days
