@@ -22,7 +22,6 @@ use Rattle.slot.specs.Sound.{isFree, openSound, slotSound}
 use Rattle.desk_scan.specs.Desk.{deskSound}
 use Rattle.desk_rules.specs.Plan.{lookAnswer, planOf}
 use Rattle.desk_rules.specs.Serve.{messageAnswer, ledgerServed, mapServed, deskServed}
-use Rattle.desk_days.specs.Day as day
 use Rattle.desk_days.specs.Story.{emptyDay}
 use Rattle.desk_days.specs.Late.{answersTo}
 use Rattle.worked.specs.Worked.{sheet105, example105}

@@ -7,7 +7,6 @@ use lib.ListN.{getD}
 use Rattle.wire.specs.Cut.{joined}
 use Rattle.ledger.specs.declared.Ledger.{Ledger}
 use Rattle.ledger.specs.Ledger.{emptyLedger, cellOf}
-use Rattle.book.specs.Book.{BookState}
 use Rattle.law_sums.specs.Accepted.{zeroMap}
 use Rattle.desk_days.specs.Day as day
 use Rattle.desk_days.specs.Day.{Arrival, message, booked, afterAll}

@@ -10,7 +10,6 @@ use Rattle.wire.specs.Cut.{joined}
 use Rattle.element_table.specs.declared.Table.{Table}
 use Rattle.element_table.specs.Table.{soundTable, seenAs}
 use Rattle.element_table.proofs.ExactlyThen.{file-exactly-0}
-use Rattle.element_file.specs.declared.Reading.{Reading}
 use Rattle.element_file.specs.Yearly.{starting, takeRecord, fileOf}
 use Rattle.element_file.proofs.RunLaws.{file-unread}
 use Rattle.refill.specs.Arrive.{mostTurns, Arrived}

@@ -69,9 +69,6 @@ module _ (period : ℕ) (fs gs : List (List ℕ)) (within : periodWithin period 
     nothing : rowIn start row ≡ noRow
     nothing = begun-row period row l
 
-    none-told : told (rowIn start row) ≡ 0
-    none-told = ap told nothing
-
     none-out : rowIn start row .outages ≡ 0
     none-out = ap (λ (r : Row). r .outages) nothing
 

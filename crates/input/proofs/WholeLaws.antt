@@ -1,11 +1,10 @@
 -- All the pieces that have come are one run of bytes, and the end of the feed is what `book` answers to them: 2^40 turns of 65,536 bytes are fewer than 2^62,
 -- so that their refused records are counted. Assumes nothing.
 use Prim.Native.Nat.{ℕ}
-use mathlib.Core.Path.{_≡_, refl}
-use mathlib.Core.Bool.{Bool, true, false, _||_, not}
+use mathlib.Core.Path.{_≡_}
+use mathlib.Core.Bool.{true, false, _||_, not}
 use mathlib.Core.List.{List}
 use native.Mathlib.Omega.{arith}
-use lib.Dec.{eqb}
 use lib.ListN.{length, replicate, length-replicate}
 use borrow.Author.Tests.{eq-eqb}
 use Rattle.wire.specs.Cut.{joined}

@@ -3,7 +3,6 @@
 use Prim.Native.Nat.{ℕ}
 use mathlib.Core.List.{List, [], _∷_}
 use Rattle.wire.specs.Cut.{joined}
-use Rattle.index.specs.declared.Level.the-variants as level
 use Rattle.worked.specs.Bytes.{three, sheet, times}
 use Rattle.worked.specs.Worked.{fault}
 

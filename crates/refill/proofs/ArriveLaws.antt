@@ -1,6 +1,6 @@
 -- What a turn of a reading loop does, over any state and any step. Assumes nothing.
 use Prim.Native.Nat.{ℕ, _+_, _≤_}
-use mathlib.Core.Path.{_≡_, refl, sym, ap, _∙_, subst⁻¹}
+use mathlib.Core.Path.{_≡_, sym, ap, _∙_, subst⁻¹}
 use mathlib.Core.Bool.{false}
 use mathlib.Core.List.{List, [], _∷_, _++_, append-assoc, append-nil}
 use native.Mathlib.Omega.{arith}
@@ -9,7 +9,7 @@ use lib.ListN.{length, take, drop, length-append, length-take, length-drop}
 use borrow.Author.Tests.{eqb-true, eqb-false}
 use Rattle.base.proofs.TestLaws.{Tested, holds, fails, test}
 use Rattle.wire.specs.Cut.{joined}
-use Rattle.records.specs.Pieces.{Pieces, beginning, fedAll, Held, heldOn, bufferOn}
+use Rattle.records.specs.Pieces.{beginning, fedAll, Held, heldOn, bufferOn}
 use Rattle.records.specs.Calls.{Call, Taker}
 use Rattle.records.proofs.CallLaws.{GoesOn}
 use Rattle.records.proofs.HeldLaws.{Holding, begins-holding, filled-up, held-on, fed-last}

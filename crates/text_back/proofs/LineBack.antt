@@ -179,15 +179,6 @@ ends-back (suc n) kind k year (v ∷ vs) w m h =
     ends-back n kind (k + 1) year vs (and-right (leb v (limitOf (itemOf kind k))) (withinFrom kind (k + 1) vs) w) (omega arith) (omega arith) in
     rw (first-back kind k year v vs w (omega arith), field-passed kind k year v rest, others)
 
--- both at once
-pub items-back :
-    (n kind k year : ℕ) (vs : List ℕ) →
-    withinFrom kind k vs ≡ true →
-    k + length vs ≤ mostOf kind →
-    length vs ≤ n →
-    (valuesFrom n (itemsText kind year k vs) kind k year 0 ≡ vs) × (endFrom n (itemsText kind year k vs) kind k year 0 .answer ≡ 255)
-items-back n kind k year vs w m h = (values-back n kind k year vs w m h, ends-back n kind k year vs w m h)
-
 -- whole and within their limits, they are the line's entry
 pub gathered-back :
     (kind year : ℕ) (vs : List ℕ) →

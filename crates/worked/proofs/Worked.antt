@@ -4,7 +4,6 @@ use Rattle.base.specs.Lists.{All}
 use Rattle.wire.specs.Cut.{cutIn, recordsOf}
 use Rattle.ratio.specs.Lowest.{euclid, gcdOf, lowestOf}
 use Rattle.decimal.specs.Decimal.{rounded, decimalOf, shownOf}
-use Rattle.codes.specs.declared.Set.the-variants as set
 use Rattle.codes.specs.Codes.{rowOf, levelOf, causes, causeListed, rowHeld}
 use Rattle.annex.specs.Times.{minutesIn, isShort}
 use Rattle.annex.specs.Figures.{withStep}
@@ -17,8 +16,6 @@ use Rattle.ledger.specs.Ledger.{added}
 use Rattle.ledger.specs.Sound.{soundLedger}
 use Rattle.ledger.specs.Take.{answerOf, ledgerAfter, mapAfter}
 use Rattle.book.specs.Book.{takeRecord}
-use Rattle.index.specs.declared.Level.the-variants as level
-use Rattle.index.specs.declared.Index.the-variants as index
 use Rattle.index.specs.Sums.{levelSum}
 use Rattle.index.specs.Index.{indexOf}
 use Rattle.worked.specs.Worked.{Case, cases}
