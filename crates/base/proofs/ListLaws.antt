@@ -1,9 +1,9 @@
 -- Tests and lookups over a list, element by element, as a loop meets them. Assumes nothing.
 use Prim.Native.Nat.{ℕ, zero, suc, _+_, _<_, _≤_}
-use mathlib.Core.Path.{_≡_, refl, ap, _∙_, sym}
+use mathlib.Core.Path.{_≡_, refl, ap, _∙_, sym, subst}
 use mathlib.Core.Bool.{Bool, true, false, _&&_, _||_, cond, or-assoc, or-false, and-assoc, and-true}
-use mathlib.Core.List.{List, [], _∷_, _++_}
-use lib.ListN.{length, getD, set, drop, replicate, drop-of-length-le}
+use mathlib.Core.List.{List, [], _∷_, _++_, map}
+use lib.ListN.{length, getD, set, take, drop, replicate, take-append-drop, drop-of-length-le}
 use lib.Seq.{drop-cons}
 use lib.Dec.{eqb, ltb}
 use native.Mathlib.Numerals.{add-one}
@@ -75,10 +75,40 @@ module _ {A : Type 0} (P : A → Type 0) where
   all-back [] ys a = a
   all-back (x ∷ xs) ys a = all-back xs ys (a .1)
 
+  -- so what holds of each of a list holds of each of its first elements, and of those after them
+  pub all-take : (n : ℕ) (xs : List A) → All P xs → All P (take n xs)
+  all-take n xs a = all-front (take n xs) (drop n xs) (subst (All P) (sym (take-append-drop n xs)) a)
+
+  pub all-drop : (n : ℕ) (xs : List A) → All P xs → All P (drop n xs)
+  all-drop n xs a = all-back (take n xs) (drop n xs) (subst (All P) (sym (take-append-drop n xs)) a)
+
+  -- and of a list with one element more at the end
+  pub all-snoc : (xs : List A) (y : A) → All P xs → P y → All P (xs ++ y ∷ [])
+  all-snoc xs y a p = all-append xs (y ∷ []) a (p, tt)
+
   -- what holds of an element holds of each of its copies
   pub all-alike : (n : ℕ) (x : A) → P x → All P (replicate n x)
   all-alike zero x p = tt
   all-alike (suc n) x p = (p, all-alike n x p)
+
+-- what holds of each where P gives Q, where P and Q give R, and through a map
+pub all-map : {A : Type 0} {P Q : A → Type 0} → ((x : A) → P x → Q x) → (xs : List A) → All P xs → All Q xs
+all-map f [] a = tt
+all-map f (x ∷ xs) a = (f x (a .0), all-map f xs (a .1))
+
+pub all-both : {A : Type 0} {P Q R : A → Type 0} → ((x : A) → P x → Q x → R x) → (xs : List A) → All P xs → All Q xs → All R xs
+all-both f [] a b = tt
+all-both f (x ∷ xs) a b = (f x (a .0) (b .0), all-both f xs (a .1) (b .1))
+
+pub all-of-map : {A B : Type 0} (P : B → Type 0) (f : A → B) (xs : List A) → All (λ x. P (f x)) xs → All P (map f xs)
+all-of-map P f [] a = tt
+all-of-map P f (x ∷ xs) a = (a .0, all-of-map P f xs (a .1))
+
+-- copies of one element have it at any index, past them too
+pub alike-at : {A : Type 0} (n i : ℕ) (a : A) → getD (replicate n a) i a ≡ a
+alike-at zero i a = refl
+alike-at (suc n) zero a = refl
+alike-at (suc n) (suc i) a = alike-at n i a
 
 -- some element of two lists
 pub any-append : {A : Type 0} (f : A → Bool) (xs ys : List A) → any f (xs ++ ys) ≡ (any f xs || any f ys)

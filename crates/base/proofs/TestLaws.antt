@@ -1,6 +1,10 @@
 -- Tests joined by `&&` and `||`, taken apart. Assumes nothing.
-use mathlib.Core.Path.{_≡_, refl, sym}
-use mathlib.Core.Bool.{Bool, true, false, _&&_, _||_, false≢true, true≢false}
+use Prim.Native.Nat.{ℕ}
+use mathlib.Core.Path.{_≡_, refl, sym, _∙_}
+use mathlib.Core.Logic.{_⊎_, inl, inr}
+use mathlib.Core.Bool.{Bool, true, false, _&&_, _||_, cond, false≢true, true≢false}
+use lib.Dec.{eqb}
+use borrow.Author.Tests.{eqb-true}
 
 -- `&&` is true exactly where both are
 pub and-left : (a b : Bool) → (a && b) ≡ true → a ≡ true
@@ -41,3 +45,15 @@ pub data Tested (t : Bool) : Type 0 where
 pub test : (t : Bool) → Tested t
 test true = holds refl
 test false = fails refl
+
+-- a number that one of three tests finds is one of the three
+pub one-of-three : (n a b c : ℕ) → cond (eqb n a) true (cond (eqb n b) true (cond (eqb n c) true false)) ≡ true → (n ≡ a) ⊎ ((n ≡ b) ⊎ (n ≡ c))
+one-of-three n a b c e = go (test (eqb n a)) (test (eqb n b)) (test (eqb n c))
+  where
+    go : Tested (eqb n a) → Tested (eqb n b) → Tested (eqb n c) → (n ≡ a) ⊎ ((n ≡ b) ⊎ (n ≡ c))
+    go (holds p) q r = inl (eqb-true n a p)
+    go (fails p) (holds q) r = inr (inl (eqb-true n b q))
+    go (fails p) (fails q) (holds r) = inr (inr (eqb-true n c r))
+    go (fails p) (fails q) (fails r) =
+        let none : cond (eqb n a) true (cond (eqb n b) true (cond (eqb n c) true false)) ≡ false = rw (p, q, r) in
+        absurd (true≢false (sym e ∙ none))

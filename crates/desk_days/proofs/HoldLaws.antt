@@ -6,7 +6,7 @@ use mathlib.Core.List.{List, [], _∷_, _++_}
 use mathlib.Core.Bool.{Bool, false, _||_}
 use lib.ListN.{length, length-append}
 use Rattle.base.specs.Lists.{any}
-use Rattle.base.proofs.ListLaws.{any-append}
+use Rattle.base.proofs.ListLaws.{all-snoc, any-append}
 use Rattle.base.proofs.TestLaws.{or-left, or-right, or-both}
 use Rattle.codes.specs.Codes.{levelOf}
 use Rattle.annex.specs.declared.Step.{Step}
@@ -20,7 +20,7 @@ use Rattle.limits.specs.Limits.{exceeding, aboveLevel, lateStep, anyLate}
 use Rattle.slot.specs.Slot.{steppedBy}
 use Rattle.desk_days.specs.Story.{SteppedEvent, slotHolding}
 use Rattle.desk_days.proofs.EncodeLaws.{Passed}
-use Rattle.desk_days.proofs.StoryLaws.{all-snoc, withLast}
+use Rattle.desk_days.proofs.StoryLaws.{withLast}
 
 last-snoc : (before : ℕ) (ss : List Step) (st : Step) → lastTime before (ss ++ st ∷ []) ≡ st .time
 last-snoc before [] st = refl

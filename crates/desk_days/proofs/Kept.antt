@@ -9,6 +9,7 @@ use lib.ListN.{length, getD, set, length-set, List·getD-eq-default}
 use lib.Dec.{eqb}
 use native.Mathlib.Nat.{le-refl}
 use Rattle.base.specs.Lists.{All}
+use Rattle.base.proofs.ListLaws.{all-map, all-both, all-snoc}
 use Rattle.records.proofs.TakeLaws.{take-all-append}
 use Rattle.codes.specs.Ranges.{mostEvents}
 use Rattle.annex.specs.declared.Step.{Step}
@@ -33,7 +34,7 @@ use Rattle.desk_scan.proofs.SearchLaws.{set-cases, numbers-length, numbers-at, 
 use Rattle.desk_days.specs.Day.{State, booked, after}
 use Rattle.desk_days.specs.Story.{Deed, opens, steps, closes, takes, SteppedEvent, eventFor, about, openDeeds, openings, closings, recordOf, completeIn, slotHolding, markedAll, Once}
 use Rattle.desk_days.proofs.EncodeLaws.{InBytes, Passed, record-taken}
-use Rattle.desk_days.proofs.StoryLaws.{all-map, all-both, all-snoc, once-snoc, named, named-snoc, openings-snoc, closings-append, openings-named, closings-named, Spares, withLast, event-spared, event-closed, event-stepped, event-opened, about-spared, order-opened, order-stepped, order-closed, complete-more}
+use Rattle.desk_days.proofs.StoryLaws.{once-snoc, named, named-snoc, openings-snoc, closings-append, openings-named, closings-named, Spares, withLast, event-spared, event-closed, event-stepped, event-opened, about-spared, order-opened, order-stepped, order-closed, complete-more}
 use Rattle.desk_days.proofs.HoldLaws.{holding-stepped, passed-stepped}
 use Rattle.desk_days.proofs.OpenMarks.{all-size, all-other, all-through, all-in, all-out, still-marked, not-before}
 use Rattle.desk_days.proofs.EntryLaws.{numberMarked, entry-ledger, entry-map, entry-sheet, entry-other, entry-again}

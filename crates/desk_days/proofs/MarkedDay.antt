@@ -7,7 +7,7 @@ use lib.ListN.{length, getD, set, replicate}
 use lib.Dec.{eqb}
 use borrow.Author.Tests.{eqb-true, eqb-false}
 use Rattle.base.specs.Lists.{All, Bytes}
-use Rattle.base.proofs.ListLaws.{all-alike}
+use Rattle.base.proofs.ListLaws.{all-map, all-alike}
 use Rattle.base.proofs.TestLaws.{Tested, holds, fails, test}
 use Rattle.wire.proofs.ByteLaws.{le16-below}
 use Rattle.used_numbers.specs.Marks.{marked, markedWith, mapSize}
@@ -24,7 +24,6 @@ use Rattle.desk_scan.proofs.SearchLaws.{empty-sound}
 use Rattle.desk_rules.specs.Rules.{stepIn}
 use Rattle.desk_days.specs.Day.{State, Arrival, message, booked, bytesOf, after, afterAll, Sound, Marked}
 use Rattle.desk_days.specs.Story.{emptyDay}
-use Rattle.desk_days.proofs.StoryLaws.{all-map}
 use Rattle.desk_days.proofs.OpenMarks.{still-marked}
 use Rattle.desk_days.proofs.AfterLaws.{IsOpened, IsStepped, IsClosed, withOpened, withStepped, withClosed, message-cases}
 use Rattle.desk_days.proofs.SoundDay.{sound-stays-sound, sound-throughout}

@@ -8,6 +8,7 @@ use lib.ListN.{length, getD}
 use lib.Dec.{eqb}
 use native.Mathlib.Omega.{arith}
 use Rattle.base.specs.Lists.{All, Bytes}
+use Rattle.base.proofs.ListLaws.{all-map}
 use Rattle.base.proofs.TestLaws.{Tested, holds, fails, test}
 use Rattle.wire.specs.Frame.{kindOf}
 use Rattle.wire.proofs.ByteLaws.{le16-below}
@@ -22,7 +23,6 @@ use Rattle.desk_scan.proofs.SearchLaws.{missing, desk-slots}
 use Rattle.desk_days.specs.Day.{State, Arrival, message, booked, bytesOf, answerTo, after, Sound, Marked}
 use Rattle.desk_days.specs.Story.{Deed, opens, steps, closes, takes, openings, Once}
 use Rattle.desk_days.specs.Late.{told, usings}
-use Rattle.desk_days.proofs.StoryLaws.{all-map}
 use Rattle.desk_days.proofs.AfterLaws.{IsOpened, withOpened, withStepped, withClosed, EventTaken, telling-cases, entering-cases}
 use Rattle.desk_days.proofs.SoundDay.{size-right}
 use Rattle.desk_days.proofs.MarkedDay.{marks-stay, marked-at}

@@ -1,15 +1,16 @@
 -- Step by step equals complete: after any arrivals at an empty desk, a book that takes the complete records of the day has the desk's ledger and,
 -- but for the outages that are open, its map. What holds all day long holds at the end. Assumes nothing.
-use Prim.Native.Nat.{ℕ, zero, suc, _≤_}
+use Prim.Native.Nat.{ℕ, suc, _≤_}
 use mathlib.Core.Path.{_≡_, refl, ap, _∙_, sym, subst}
 use mathlib.Core.Logic.{_⊎_, inl, inr}
 use mathlib.Core.List.{List, [], _∷_, _++_, map, append-nil, append-assoc}
 use mathlib.Core.Bool.{Bool, true, false, not, cond}
-use lib.ListN.{length, getD, replicate}
+use lib.ListN.{length, replicate}
 use lib.Dec.{eqb}
 use native.Mathlib.Omega.{arith}
 use borrow.Author.Tests.{eqb-true, eqb-false, not-false}
 use Rattle.base.specs.Lists.{All, Bytes}
+use Rattle.base.proofs.ListLaws.{all-map, all-of-map, all-alike, alike-at}
 use Rattle.base.proofs.TestLaws.{or-left}
 use Rattle.wire.specs.Frame.{kindOf}
 use Rattle.wire.specs.declared.Place.{Place}
@@ -35,7 +36,6 @@ use Rattle.desk_rules.proofs.MessageLaws.{open-right, step-right, close-right, 
 use Rattle.desk_days.specs.Day.{State, Arrival, message, booked, bytesOf, answerTo, after, afterAll, acceptedOf}
 use Rattle.desk_days.specs.Story.{Deed, opens, steps, closes, takes, messageIn, deedOf, steppedEventIn, eventFor, about, openDeeds, openings, closings, recordOf, closedRecords, completeIn, completeRecords, markedAll, emptyDay, NothingOpen, Once, headFor, stepsFor}
 use Rattle.desk_days.proofs.EncodeLaws.{Passed, read-back}
-use Rattle.desk_days.proofs.StoryLaws.{all-map, all-of-map}
 use Rattle.desk_days.proofs.OpenMarks.{all-none}
 use Rattle.desk_days.proofs.AfterLaws.{refused-after, after-opened, after-stepped, after-closed}
 use Rattle.desk_days.proofs.Kept.{at, ToldOf, Kept, open-next, step-next, close-next, entry-next}
@@ -123,19 +123,12 @@ module _ (l₀ : Ledger) (m₀ : List ℕ) where
       go false e f = f ds (subst (Kept l₀ m₀ ds) (sym (refused-after st a (eqb-false _ _ e))) k)
 
 -- the start: an empty desk
-pub empty-at : (n i : ℕ) → getD (replicate n freeSlot) i freeSlot ≡ freeSlot
-empty-at zero i = refl
-empty-at (suc n) zero = refl
-empty-at (suc n) (suc i) = empty-at n i
-
 no-numbers : (d : List Slot) → NothingOpen d → All (λ v. v ≡ 0) (numbersOf d)
-no-numbers [] a = tt
-no-numbers (s ∷ d) a = (a .0, no-numbers d (a .1))
+no-numbers d a = all-of-map (λ v. v ≡ 0) numberAt d a
 
 -- free slots, however many, have nothing open
 pub nothing-open : (n : ℕ) → NothingOpen (replicate n freeSlot)
-nothing-open zero = tt
-nothing-open (suc n) = (refl, nothing-open n)
+nothing-open n = all-alike (λ s. numberAt s ≡ 0) n freeSlot refl
 
 begins : (l : Ledger) (m : List ℕ) → Kept l m [] (emptyDay l m)
 begins l m =
@@ -144,8 +137,8 @@ begins l m =
       taken = refl;
       same = sym (all-none m (numbersOf emptyDesk) (no-numbers emptyDesk (nothing-open slotCount)));
       size = refl;
-      each = λ i z. absurd (z (ap numberAt (empty-at slotCount i)));
-      idle = λ i _. empty-at slotCount i;
+      each = λ i z. absurd (z (ap numberAt (alike-at slotCount i freeSlot)));
+      idle = λ i _. alike-at slotCount i freeSlot;
       seen = tt;
       shut = tt;
       opened-once = tt;
@@ -269,8 +262,7 @@ messages-complete st rs =
 
 -- messages of bytes are arrivals of bytes
 pub message-bytes : (rs : List (List ℕ)) → All Bytes rs → All (λ a. Bytes (bytesOf a)) (map message rs)
-message-bytes [] b = tt
-message-bytes (s ∷ rs) b = (b .0, message-bytes rs (b .1))
+message-bytes rs b = all-of-map (λ a. Bytes (bytesOf a)) message rs b
 
 -- "From an empty desk with a given ledger and map, after any sequence of desk messages that leaves nothing open, ledger and map are those of taking
 -- the closed events as kind 3 records in the order of closing": each of these is accepted. Of ledger and map nothing is asked: where they are

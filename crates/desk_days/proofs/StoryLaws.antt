@@ -8,28 +8,10 @@ use mathlib.Core.Bool.{Bool, true, false, cond}
 use lib.Dec.{eqb}
 use borrow.Author.Tests.{eq-eqb, ne-eqb}
 use Rattle.base.specs.Lists.{All}
-use Rattle.base.proofs.ListLaws.{all-append}
+use Rattle.base.proofs.ListLaws.{all-map, all-snoc}
 use Rattle.annex.specs.declared.Step.{Step}
 use Rattle.fields.specs.declared.Head.{Head}
 use Rattle.desk_days.specs.Story.{Deed, opens, steps, closes, takes, SteppedEvent, headFor, stepsFor, eventFor, openings, closings, names, about, openDeeds, recordOf, completeIn, Once}
-
--- ---- what holds of each
-
--- what holds of each element of a list: where P gives Q, where P and Q give R, through a map, and with one element more at the end
-pub all-map : {A : Type 0} {P Q : A → Type 0} → ((x : A) → P x → Q x) → (xs : List A) → All P xs → All Q xs
-all-map f [] a = tt
-all-map f (x ∷ xs) a = (f x (a .0), all-map f xs (a .1))
-
-pub all-both : {A : Type 0} {P Q R : A → Type 0} → ((x : A) → P x → Q x → R x) → (xs : List A) → All P xs → All Q xs → All R xs
-all-both f [] a b = tt
-all-both f (x ∷ xs) a b = (f x (a .0) (b .0), all-both f xs (a .1) (b .1))
-
-pub all-of-map : {A B : Type 0} (P : B → Type 0) (f : A → B) (xs : List A) → All (λ x. P (f x)) xs → All P (map f xs)
-all-of-map P f [] a = tt
-all-of-map P f (x ∷ xs) a = (a .0, all-of-map P f xs (a .1))
-
-pub all-snoc : {A : Type 0} (P : A → Type 0) (xs : List A) (y : A) → All P xs → P y → All P (xs ++ y ∷ [])
-all-snoc P xs y a p = all-append P xs (y ∷ []) a (p, tt)
 
 -- numbers of which none stands twice stay so with another one at the end
 pub once-snoc : (vs : List ℕ) (w : ℕ) → Once vs → All (λ v. w ≢ v) vs → Once (vs ++ w ∷ [])

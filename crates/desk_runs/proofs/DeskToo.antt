@@ -8,8 +8,9 @@ use lib.ListN.{length, take, drop}
 use lib.Dec.{eqb}
 use native.Mathlib.Omega.{arith}
 use borrow.Author.Tests.{eqb-true}
-use Rattle.base.specs.Lists.{All, Bytes}
+use Rattle.base.specs.Lists.{All, Bytes, Byte}
 use Rattle.base.proofs.TestLaws.{Tested, holds, fails, test, and-right}
+use Rattle.base.proofs.ListLaws.{all-take, all-drop}
 use Rattle.wire.specs.Numbers.{le16}
 use Rattle.wire.specs.Frame.{kindOf}
 use Rattle.wire.specs.Cut.{wholeInFront, cutIn, recordsOf}
@@ -25,7 +26,7 @@ use Rattle.desk_scan.specs.Desk.{slotCount}
 use Rattle.desk_days.specs.Day.{State, Arrival, message, booked, bytesOf}
 use Rattle.desk_days.specs.Story.{completeRecords, emptyDay, NothingOpen}
 use Rattle.desk_days.specs.Late.{answersTo}
-use Rattle.desk_days.proofs.StepByStep.{nothing-open}
+use Rattle.desk_days.proofs.StepByStep.{message-bytes, nothing-open}
 use Rattle.desk_runs.specs.Messages.{messagesOf}
 use Rattle.desk_runs.specs.Runs.{Builds, Run, recordsIn, arrivalsIn, InRuns, SameEnd, Leads, arrivalsOf, dayOf}
 use Rattle.desk_runs.proofs.MessageLaws.{messages-bytes}
@@ -67,10 +68,6 @@ the-desk-too book rs e k =
 
 -- ---- one record is one run, whether it is entered or built up
 
-messages-in-bytes : (ms : List (List ℕ)) → All Bytes ms → All (λ a. Bytes (bytesOf a)) (map message ms)
-messages-in-bytes [] b = tt
-messages-in-bytes (s ∷ ms) b = (b .0, messages-in-bytes ms (b .1))
-
 module _ (l : Ledger) (m s : List ℕ) (b : Bytes s) (a : answerOf l m s ≡ 0) where
   abbrev next : State
   next = emptyDay (ledgerAfter l m s) (mapAfter l m s)
@@ -94,7 +91,7 @@ module _ (l : Ledger) (m s : List ℕ) (b : Bytes s) (a : answerOf l m s ≡ 0) 
   stepped-builds k =
       let p = stepped-passed l m s b k a in
       builds-one (map message (messagesOf s))
-      (messages-in-bytes (messagesOf s) (messages-bytes _ (p .in-bytes) (stepped-few l m s b k a)))
+      (message-bytes (messagesOf s) (messages-bytes _ (p .in-bytes) (stepped-few l m s b k a)))
       (built-up l m s b k a)
       (messages-tell _ (p .in-bytes) ∙ ap (λ r. r ∷ []) (told-again l m s b k a))
 
@@ -189,23 +186,13 @@ none-chosen (s ∷ ss) = ap (λ as′. booked s ∷ as′) (none-chosen ss)
 
 -- ---- a book in bytes
 
-take-bytes : (n : ℕ) (s : List ℕ) → Bytes s → Bytes (take n s)
-take-bytes zero s b = tt
-take-bytes (suc n) [] b = tt
-take-bytes (suc n) (x ∷ s) b = (b .0, take-bytes n s (b .1))
-
-drop-bytes : (n : ℕ) (s : List ℕ) → Bytes s → Bytes (drop n s)
-drop-bytes zero s b = b
-drop-bytes (suc n) [] b = tt
-drop-bytes (suc n) (x ∷ s) b = drop-bytes n s (b .1)
-
 cut-bytes : (k : ℕ) (book : List ℕ) → Bytes book → All Bytes (cutIn k book)
 unfolding cutIn
 cut-bytes zero book b = tt
-cut-bytes (suc k) book b = go (wholeInFront book) (cut-bytes k (drop (le16 book 0) book) (drop-bytes (le16 book 0) book b))
+cut-bytes (suc k) book b = go (wholeInFront book) (cut-bytes k (drop (le16 book 0) book) (all-drop Byte (le16 book 0) book b))
   where
     go : (t : Bool) → All Bytes (cutIn k (drop (le16 book 0) book)) → All Bytes (cond t (take (le16 book 0) book ∷ cutIn k (drop (le16 book 0) book)) [])
-    go true later = (take-bytes (le16 book 0) book b, later)
+    go true later = (all-take Byte (le16 book 0) book b, later)
     go false later = tt
 
 pub records-bytes : (book : List ℕ) → Bytes book → All Bytes (recordsOf book)

@@ -9,6 +9,7 @@ use lib.ListN.{length, getD, set, replicate}
 use native.Mathlib.Omega.{arith}
 use borrow.Author.Tests.{eq-eqb}
 use Rattle.base.specs.Lists.{All, any}
+use Rattle.base.proofs.ListLaws.{alike-at}
 use Rattle.base.proofs.TestLaws.{or-left, or-right}
 use Rattle.codes.specs.Codes.{levelOf}
 use Rattle.codes.specs.Ranges.{mostEvents}
@@ -36,7 +37,6 @@ use Rattle.desk_days.specs.Story.{SteppedEvent, slotHolding, emptyDay}
 use Rattle.desk_days.specs.Late.{steppedAll}
 use Rattle.desk_days.proofs.EncodeLaws.{Passed, verdictFor}
 use Rattle.desk_days.proofs.AfterLaws.{after-opened, after-stepped, after-closed}
-use Rattle.desk_days.proofs.StepByStep.{empty-at}
 use Rattle.desk_days.proofs.SoundDay.{not-unsound, sound-not-1, sound-stays-sound, sound-throughout}
 use Rattle.desk_days.proofs.FoldedDay.{all-steps}
 use Rattle.desk_runs.specs.Messages.{openOf, stepOf, closeOf, stepsOf, messagesFor}
@@ -58,7 +58,7 @@ module _ (w : ℕ) (x : Slot) (q : numberAt x ≡ w) where
 
 -- on an empty desk no number is found, and the first slot is free
 none-open : (v : ℕ) → v ≢ 0 → placeOf v emptyDesk ≡ slotCount
-none-open v n = missing v emptyDesk (λ i _ q. n (sym q ∙ ap numberAt (empty-at slotCount i)))
+none-open v n = missing v emptyDesk (λ i _ q. n (sym q ∙ ap numberAt (alike-at slotCount i freeSlot)))
 
 -- ---- an event that passes the book's rules, under a ledger that is sound and has room, and a map in which its number is not marked
 

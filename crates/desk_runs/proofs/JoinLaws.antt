@@ -6,7 +6,7 @@ use mathlib.Core.List.{List, [], _∷_, _++_, map, append-nil, append-assoc, map
 use mathlib.Core.Bool.{Bool, true, false, cond}
 use lib.Dec.{eqb}
 use Rattle.base.specs.Lists.{All, Bytes}
-use Rattle.base.proofs.ListLaws.{all-front, all-back, keep-append, all-append}
+use Rattle.base.proofs.ListLaws.{all-both, all-front, all-back, keep-append, all-append}
 use Rattle.annex.specs.declared.Step.{Step}
 use Rattle.fields.specs.declared.Head.{Head}
 use Rattle.ledger.specs.declared.Ledger.{Ledger}
@@ -16,7 +16,7 @@ use Rattle.slot.specs.Slot.{freeSlot}
 use Rattle.desk_days.specs.Day.{State, Arrival, bytesOf, answerTo, after, afterAll, acceptedOf}
 use Rattle.desk_days.specs.Story.{Deed, opens, steps, closes, takes, deedOf, SteppedEvent, eventFor, closings, names, about, openDeeds, completeIn, emptyDay, NothingOpen}
 use Rattle.desk_days.proofs.AfterLaws.{after-append}
-use Rattle.desk_days.proofs.StoryLaws.{all-both, closings-append, complete-append, complete-same}
+use Rattle.desk_days.proofs.StoryLaws.{closings-append, complete-append, complete-same}
 use Rattle.desk_days.proofs.StepByStep.{slots-reused, day-in-records, in-order}
 use Rattle.desk_runs.specs.Runs.{Builds}
 

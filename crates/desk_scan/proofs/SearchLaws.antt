@@ -5,15 +5,16 @@ use mathlib.Core.Path.{_≡_, refl, sym, _∙_, ap, subst}
 use mathlib.Core.Logic.{_≢_}
 use mathlib.Core.List.{List, [], _∷_, map}
 use mathlib.Core.Bool.{Bool, true, false, _&&_, _||_, not, cond}
-use lib.ListN.{length, getD, set, length-set, length-map, List·getD-map, List·getD-eq-default}
+use lib.ListN.{length, getD, set, length-set, length-map, List·getD-map}
 use lib.Seq.{getD-set-same, getD-set-other, map-set-same}
-use lib.Dec.{ltb, eqb}
+use lib.Dec.{eqb}
 use native.Mathlib.Omega.{arith}
 use native.Mathlib.Decide.{ℕ-discrete}
-use native.Mathlib.Nat.{not-suc-le-zero, le-of-suc-le-suc, suc-inj, suc-ne-zero, zero-lt-suc, le-refl}
-use borrow.Author.Tests.{ltb-true, ltb-false, eqb-true, eqb-false, eq-eqb, ne-eqb, not-true}
+use native.Mathlib.Nat.{not-suc-le-zero, le-of-suc-le-suc, suc-inj, suc-ne-zero, zero-lt-suc}
+use borrow.Author.Tests.{eqb-true, eqb-false, eq-eqb, ne-eqb, not-true}
 use Rattle.base.specs.Lists.{every, listed, place}
 use Rattle.base.proofs.ListLaws.{every-set}
+use Rattle.base.proofs.PlaceLaws.{number-at-most, number-found}
 use Rattle.base.proofs.TestLaws.{and-left, and-right, and-both, or-both, or-left, or-right, or-other}
 use Rattle.slot.specs.declared.Slot.{Slot}
 use Rattle.slot.specs.Slot.{freeSlot}
@@ -38,23 +39,6 @@ map-set f (x ∷ l) zero a = refl
 map-set f (x ∷ l) (suc i) a = ap (λ k. f x ∷ k) (map-set f l i a)
 
 -- ---- the search in a list of numbers
-
--- the search passes at most the whole list, and a place of the list where it ends holds the number
-pub number-at-most : (v : ℕ) (vs : List ℕ) → place v vs ≤ length vs
-number-at-most v [] = le-refl 0
-number-at-most v (w ∷ vs) = go (eqb v w) (number-at-most v vs)
-  where
-    go : (t : Bool) → place v vs ≤ length vs → cond t 0 (suc (place v vs)) ≤ suc (length vs)
-    go true k = omega arith
-    go false k = suc-le-suc k
-
-pub number-found : (v : ℕ) (vs : List ℕ) → place v vs < length vs → getD vs (place v vs) 0 ≡ v
-number-found v [] l = absurd (not-suc-le-zero l)
-number-found v (w ∷ vs) l = go (eqb v w) refl l (number-found v vs)
-  where
-    go : (t : Bool) → eqb v w ≡ t → cond t 0 (suc (place v vs)) < suc (length vs) → (place v vs < length vs → getD vs (place v vs) 0 ≡ v) → getD (w ∷ vs) (cond t 0 (suc (place v vs))) 0 ≡ v
-    go true e l k = sym (eqb-true v w e)
-    go false e l k = k (le-of-suc-le-suc l)
 
 -- the search passes only what is not the number
 pub number-before : (v : ℕ) (vs : List ℕ) (i : ℕ) → i < place v vs → getD vs i 0 ≢ v
@@ -186,14 +170,6 @@ pub place-first : (v : ℕ) (d : List Slot) (i : ℕ) → i < length d → numbe
 place-first v d i l e h =
     number-first v (numbersOf d) i (subst (λ k. i < k) (sym (numbers-length d)) l) (numbers-at d i ∙ e) (λ j b q. h j b (sym (numbers-at d j) ∙ q))
 
--- a slot that holds it is not passed
-pub place-not-after : (v : ℕ) (d : List Slot) (i : ℕ) → numberAt (getD d i freeSlot) ≡ v → placeOf v d ≤ i
-place-not-after v d i e = go (ltb i (placeOf v d)) refl
-  where
-    go : (t : Bool) → ltb i (placeOf v d) ≡ t → placeOf v d ≤ i
-    go true f = absurd (before v d i (ltb-true i (placeOf v d) f) e)
-    go false f = ltb-false i (placeOf v d) f
-
 -- ---- open numbers differ
 
 -- where they differ, no two indices hold one number other than 0; and the other way round
@@ -259,10 +235,7 @@ place-set-gone v d a e n m = missing v (set d (placeOf v d) a) (λ j b. elsewher
         go (yes p) q = m (sym (ap numberAt (getD-set-same d (placeOf v d) a freeSlot (omega arith))) ∙ ap (λ k. numberAt (getD (set d (placeOf v d) a) k freeSlot)) (sym p) ∙ q)
         go (no p) q = p (held j (sym (ap numberAt (getD-set-other d (placeOf v d) j a freeSlot p)) ∙ q))
 
--- the slot that is found: the new one where it is the first to hold the number, the old one where neither it nor the slot before it holds it
-pub slot-set-here : (v : ℕ) (d : List Slot) (i : ℕ) (a : Slot) → i < length d → i ≤ placeOf v d → numberAt a ≡ v → slotOf v (set d i a) ≡ a
-slot-set-here v d i a l b e = ap (λ k. getD (set d i a) k freeSlot) (place-set-here v d i a l b e) ∙ getD-set-same d i a freeSlot l
-
+-- the slot that is found is the old one, where neither the new slot nor the one before it holds the number
 pub slot-set-other : (v : ℕ) (d : List Slot) (i : ℕ) (a : Slot) → numberAt (getD d i freeSlot) ≢ v → numberAt a ≢ v → slotOf v (set d i a) ≡ slotOf v d
 slot-set-other v [] i a n m = refl
 slot-set-other v (s ∷ d) zero a n m =
@@ -273,10 +246,6 @@ slot-set-other v (s ∷ d) (suc i) a n m = go (eqb v (numberAt s)) (slot-set-oth
     go : (t : Bool) → slotOf v (set d i a) ≡ slotOf v d → getD (s ∷ set d i a) (cond t 0 (suc (placeOf v (set d i a)))) freeSlot ≡ getD (s ∷ d) (cond t 0 (suc (placeOf v d))) freeSlot
     go true k = refl
     go false k = k
-
--- no slot is found: zeros only
-pub slot-absent : (v : ℕ) (d : List Slot) → length d ≤ placeOf v d → slotOf v d ≡ freeSlot
-slot-absent v d l = List·getD-eq-default d freeSlot l
 
 -- ---- soundness, slot by slot
 

@@ -1,10 +1,10 @@
 -- A type's row is its own: two types of one row are one, and the events of a list of different types are those of its first type and those of the
 -- others. Assumes nothing.
-use Prim.Native.Nat.{ℕ, suc, _+_, _<_}
+use Prim.Native.Nat.{ℕ, _+_, _<_}
 use mathlib.Core.Path.{_≡_, refl, sym, ap, _∙_}
 use mathlib.Core.List.{List, [], _∷_, map}
 use mathlib.Core.Bool.{Bool, true, false, _&&_, _||_, not, cond, or-false}
-use lib.ListN.{length, getD}
+use lib.ListN.{getD}
 use lib.Dec.{eqb, ltb}
 use native.Mathlib.Nat.{zero-add, add-zero}
 use native.Mathlib.Omega.{arith}
@@ -18,20 +18,7 @@ use Rattle.law_sums.specs.Accepted.{eventIn, rowIn, countedIn}
 use Rattle.law_adding.specs.Parts.{eachOnce, counted}
 use Rattle.base.proofs.SumLaws.{sum-of-parts}
 use Rattle.base.proofs.ListLaws.{keep-alike}
-
--- what stands at the place of a number is the number
-at-its-place : (x : ℕ) (ts : List ℕ) → place x ts < length ts → getD ts (place x ts) 0 ≡ x
-at-its-place x [] b = absurd (omega arith)
-at-its-place x (t ∷ ts) b = go (eqb x t) refl b (at-its-place x ts)
-  where
-    go :
-        (here : Bool) →
-        eqb x t ≡ here →
-        cond here 0 (suc (place x ts)) < suc (length ts) →
-        (place x ts < length ts → getD ts (place x ts) 0 ≡ x) →
-        getD (t ∷ ts) (cond here 0 (suc (place x ts))) 0 ≡ x
-    go true e b next = sym (eqb-true x t e)
-    go false e b next = next (omega (arith, b))
+use Rattle.base.proofs.PlaceLaws.{number-found}
 
 -- a number has the row of a type just where it is the type
 pub row-of-type : (x typ : ℕ) → rowOf typ < rows → eqb (rowOf x) (rowOf typ) ≡ eqb x typ
@@ -45,7 +32,7 @@ row-of-type x typ b = go (test (eqb x typ))
         apart : place x types ≡ place typ types → ⊥
         apart p =
             eqb-false x typ e
-            (sym (at-its-place x types (omega (arith, p, b))) ∙ ap (λ (i : ℕ). getD types i 0) p ∙ at-its-place typ types b)
+            (sym (number-found x types (omega (arith, p, b))) ∙ ap (λ (i : ℕ). getD types i 0) p ∙ number-found typ types b)
 
 -- the counted events of a type are those of its row
 pub counted-by-row : (typ : ℕ) → rowOf typ < rows → (events : List (List ℕ)) → counted (typ ∷ []) events ≡ countedIn (rowOf typ) events

@@ -1,15 +1,16 @@
 -- What records do to the map and to the sheet: an accepted event marks its number and leaves the sheet, an accepted sheet leaves the map and is the sheet
 -- from then on, and a refused record leaves both. Assumes nothing.
-use Prim.Native.Nat.{ℕ, zero, suc, _/_, _%_, _^_, _<_}
+use Prim.Native.Nat.{ℕ, _/_, _%_, _^_, _<_}
 use mathlib.Core.Path.{_≡_, refl, sym, ap, _∙_, subst}
 use mathlib.Core.Logic.{_≢_}
 use mathlib.Core.List.{List, [], _∷_}
 use mathlib.Core.Bool.{Bool, true, false, _&&_, _||_, not, cond, or-false, or-true, or-assoc, true≢false}
-use lib.ListN.{length, getD, replicate}
+use lib.ListN.{length}
 use lib.Dec.{eqb}
 use native.Mathlib.Nat.{zero-div}
 use borrow.Author.Tests.{eqb-true, eqb-false, not-false, not-true}
 use Rattle.base.specs.Lists.{listed}
+use Rattle.base.proofs.ListLaws.{alike-at}
 use Rattle.base.proofs.TestLaws.{Tested, holds, fails, test, and-left, or-left}
 use Rattle.wire.specs.Frame.{kindOf}
 use Rattle.used_numbers.specs.Marks.{mapSize, bitOf, marked, markedWith}
@@ -184,12 +185,7 @@ records-marked st (s ∷ ss) v b =
 -- the all-zero map marks nothing
 pub zero-unmarked : (v : ℕ) → marked zeroMap v ≡ false
 unfolding marked
-zero-unmarked v = ap (λ (b : ℕ). bitOf b (v % 8)) (zeros mapSize (v / 8)) ∙ ap (λ (q : ℕ). eqb (q % 2) 1) (zero-div (2 ^ (v % 8)))
-  where
-    zeros : (n i : ℕ) → getD {A = ℕ} (replicate n 0) i 0 ≡ 0
-    zeros zero i = refl
-    zeros (suc n) zero = refl
-    zeros (suc n) (suc i) = zeros n i
+zero-unmarked v = ap (λ (b : ℕ). bitOf b (v % 8)) (alike-at mapSize (v / 8) 0) ∙ ap (λ (q : ℕ). eqb (q % 2) 1) (zero-div (2 ^ (v % 8)))
 
 -- once there, a sheet stays
 stays : (s : List ℕ) (ss : List (List ℕ)) → sheetBy (sheetIn s) ss ≡ sheetIn s

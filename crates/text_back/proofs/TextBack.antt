@@ -10,9 +10,9 @@ use lib.ListN.{length, take, drop, length-take, length-drop, take-append-drop}
 use native.Mathlib.Omega.{arith}
 use native.Mathlib.Nat.{le-refl}
 use borrow.Author.Tests.{eqb-true, eqb-false, ne-eqb}
-use Rattle.base.specs.Lists.{All, Bytes}
+use Rattle.base.specs.Lists.{All, Bytes, Byte}
 use Rattle.base.proofs.TestLaws.{Tested, holds, fails, test}
-use Rattle.base.proofs.ListLaws.{all-append, all-front, all-back}
+use Rattle.base.proofs.ListLaws.{all-append, all-front, all-back, all-take, all-drop}
 use Rattle.wire.specs.Cut.{recordsOf, stopFrom, joined}
 use Rattle.wire.proofs.CutLaws.{records-joined}
 use Rattle.text_items.specs.declared.Entry.{Entry}
@@ -82,13 +82,6 @@ hex-stands year vs b some few =
     (entry-back 4 year vs (omega arith) (omega arith) w n ∙ bytes-back vs b)
     (rw sort))
 
--- the bytes in front and those after them
-front-bytes : (n : ℕ) (s : List ℕ) → Bytes s → Bytes (take n s)
-front-bytes n s b = all-front (λ (x : ℕ). x < 256) (take n s) (drop n s) (subst Bytes (sym (take-append-drop n s)) b)
-
-back-bytes : (n : ℕ) (s : List ℕ) → Bytes s → Bytes (drop n s)
-back-bytes n s b = all-back (λ (x : ℕ). x < 256) (take n s) (drop n s) (subst Bytes (sym (take-append-drop n s)) b)
-
 -- bytes, 32 to a line
 bytes-stand : (n : ℕ) (s : List ℕ) (year : ℕ) → Bytes s → length s ≤ n → Stands year (bytesLinesIn n s) s year
 unfolding bytesEntry
@@ -99,9 +92,9 @@ bytes-stand (suc n) (x ∷ s) year b h =
     let t : List ℕ = x ∷ s in
     let some : 1 ≤ length (take 32 t) = omega (arith, length-take 32 t) in
     let few : length (take 32 t) ≤ 32 = omega (arith, length-take 32 t) in
-    let front : Stands year (lineOf (entryOf 4 (take 32 t)) 0 ∷ []) (take 32 t) year = hex-stands year (take 32 t) (front-bytes 32 t b) some few in
+    let front : Stands year (lineOf (entryOf 4 (take 32 t)) 0 ∷ []) (take 32 t) year = hex-stands year (take 32 t) (all-take Byte 32 t b) some few in
     let back : Stands year (bytesLinesIn n (drop 32 t)) (drop 32 t) year =
-    bytes-stand n (drop 32 t) year (back-bytes 32 t b) (omega (arith, length-drop 32 t)) in
+    bytes-stand n (drop 32 t) year (all-drop Byte 32 t b) (omega (arith, length-drop 32 t)) in
     rw (ne-eqb (length t) 0 (λ e. omega arith))
     (subst (λ (u : List ℕ). Stands year (lineOf (entryOf 4 (take 32 t)) 0 ∷ bytesLinesIn n (drop 32 t)) u year) (take-append-drop 32 t)
     (both-stand year year year (lineOf (entryOf 4 (take 32 t)) 0 ∷ []) (bytesLinesIn n (drop 32 t)) (take 32 t) (drop 32 t) front back))
@@ -182,7 +175,7 @@ module _ (book : List ℕ) (b : Bytes book) where
   stop = stopFrom book 0
 
   whole-back : (written (bookText book) ≡ joined (recordsOf book) ++ drop stop book) × (right (bookText book) ≡ true)
-  whole-back = lines-back (recordsOf book) (drop stop book) 0 (subst Bytes (sym (records-joined book)) (front-bytes stop book b)) (back-bytes stop book b)
+  whole-back = lines-back (recordsOf book) (drop stop book) 0 (subst Bytes (sym (records-joined book)) (all-take Byte stop book b)) (all-drop Byte stop book b)
 
   -- a book's text stands for the book
   pub book-read-back : written (bookText book) ≡ book
