@@ -1,7 +1,9 @@
 -- No sum of figures wraps, and what an event adds stays within what one event may add: the loop over steps, simple and stepped events.
 -- Assumes nothing.
-use Prim.Native.Nat.{ℕ, _+_, _*_, _-_, _<_, _≤_}
+use Prim.Native.Nat.{ℕ, _+_, _*_, _-_, _%_, _<_, _≤_}
 use mathlib.Core.List.{List, [], _∷_}
+use mathlib.Core.Bool.{Bool, true, false, cond}
+use lib.Dec.{eqb}
 use lib.ListN.{getD}
 use native.Mathlib.Nat.{mul-le-mul-right}
 use native.Mathlib.Omega.{arith}
@@ -11,6 +13,7 @@ use Rattle.codes.specs.Ranges.{latest, mostCustomers}
 use Rattle.annex.specs.declared.Course.{Course}
 use Rattle.annex.specs.declared.Simple.{Simple}
 use Rattle.annex.specs.declared.Step.{Step}
+use Rattle.annex.specs.Times.{minutesIn}
 use Rattle.annex.specs.Figures.{withStep}
 use Rattle.annex.specs.Simple.{simpleFigures, InOrder}
 use Rattle.annex.specs.Stepped.{begun, coursed, steppedFigures}
@@ -18,6 +21,15 @@ use Rattle.annex.specs.Annex.{countsOf, weighed}
 use Rattle.annex.specs.Figure.{Off, Halves}
 use Rattle.annex.specs.Inside.{Few, Timely, Ready, Within, Ordered}
 use Rattle.annex.proofs.FoldLaws.{each-level, simple-customers, simple-halves, stepped-customers, stepped-halves}
+
+-- no year has more minutes than a leap year
+pub minutes-most : (year : ℕ) → minutesIn year ≤ 527040
+unfolding minutesIn
+minutes-most year = go (eqb (year % 4) 0)
+  where
+    go : (t : Bool) → cond t 527040 525600 ≤ 527040
+    go true = omega arith
+    go false = omega arith
 
 -- the count of each level is at most m
 pub few-at : {m : ℕ} {n : List ℕ} → Few m n → (h : ℕ) → h < levels → getD n h 0 ≤ m

@@ -1,17 +1,17 @@
 -- *Sound stays sound*: after any message and any book record ledger, map and desk are as sound as before it. Assumes nothing.
-use Prim.Native.Nat.{ℕ, _<_, _≤_, _%_}
+use Prim.Native.Nat.{ℕ, _<_, _≤_}
 use mathlib.Core.Path.{_≡_, refl, sym, _∙_, ap, subst}
 use mathlib.Core.Logic.{_≢_}
 use mathlib.Core.List.{List, [], _∷_}
-use mathlib.Core.Bool.{Bool, true, false, not, cond}
+use mathlib.Core.Bool.{true, false, not}
 use lib.ListN.{length, getD}
 use lib.Dec.{eqb}
 use native.Mathlib.Omega.{arith}
 use borrow.Author.Tests.{eqb-true, eq-eqb, not-false}
 use Rattle.base.proofs.TestLaws.{or-left, or-right, or-both}
 use Rattle.codes.specs.Ranges.{mostCustomers}
-use Rattle.annex.specs.Times.{minutesIn}
 use Rattle.annex.specs.Inside.{Few}
+use Rattle.annex.proofs.Bounds.{minutes-most}
 use Rattle.used_numbers.specs.Marks.{mapSize}
 use Rattle.used_numbers.proofs.MarkLaws.{markedWith-size}
 use Rattle.fields.specs.Fields.{headIn}
@@ -37,14 +37,6 @@ use Rattle.desk_rules.proofs.PlanLaws.{framed-by-kind, close-fits}
 use Rattle.desk_days.specs.Day.{State, Arrival, message, booked, answerTo, after, afterAll, Sound}
 use Rattle.desk_days.proofs.SlotLaws.{opened-sound, stepped-sound}
 use Rattle.desk_days.proofs.AfterLaws.{IsOpened, IsStepped, IsClosed, withOpened, withStepped, withClosed, message-cases}
-
-minutes-most : (year : ℕ) → minutesIn year ≤ 527040
-unfolding minutesIn
-minutes-most year = go (eqb (year % 4) 0)
-  where
-    go : (t : Bool) → cond t 527040 525600 ≤ 527040
-    go true = omega arith
-    go false = omega arith
 
 -- where 1 does not apply, all is sound
 module _ (l : Ledger) (m : List ℕ) (u : unsound l m ≡ false) where

@@ -1,10 +1,10 @@
 -- What a desk message tells and does, by its answer and its kind: the rules are read in their order, once, and later laws cite what is said here
 -- and not the rules' places. Assumes nothing.
 use Prim.Native.Nat.{ℕ, _+_}
-use mathlib.Core.Path.{_≡_, refl, sym, _∙_, ap, subst}
-use mathlib.Core.Logic.{_⊎_, inl, inr}
+use mathlib.Core.Path.{_≡_, refl, _∙_, ap, subst}
+use mathlib.Core.Logic.{_⊎_}
 use mathlib.Core.List.{List}
-use mathlib.Core.Bool.{Bool, true, false, _||_, not, true≢false}
+use mathlib.Core.Bool.{Bool, true, false, _||_, not}
 use lib.ListN.{length, set}
 use lib.Seq.{set-out}
 use lib.Dec.{eqb, ltb}
@@ -12,7 +12,7 @@ use native.Mathlib.Nat.{le-refl}
 use borrow.Author.Tests.{eqb-true, eqb-false, leb-false, ltb-false, not-false}
 use Rattle.base.specs.First.{NoRule, Clear, Foremost, Rising}
 use Rattle.base.proofs.FirstLaws.{clear, clear-at, then}
-use Rattle.base.proofs.TestLaws.{Tested, holds, fails, test, or-left, or-right}
+use Rattle.base.proofs.TestLaws.{or-left, or-right, one-of-three}
 use Rattle.wire.specs.Frame.{framed, kindOf}
 use Rattle.codes.specs.Ranges.{mostEvents}
 use Rattle.annex.specs.Times.{minutesIn}
@@ -52,15 +52,7 @@ pub record Closed (l : Ledger) (m : List ℕ) (d : List Slot) (s : List ℕ) : T
 
 -- the kinds that are taken
 pub kind-taken : (kind : ℕ) → kindNotTaken kind ≡ false → (kind ≡ 16) ⊎ ((kind ≡ 17) ⊎ (kind ≡ 18))
-kind-taken kind e = go (test (eqb kind 16)) (test (eqb kind 17)) (test (eqb kind 18))
-  where
-    go : Tested (eqb kind 16) → Tested (eqb kind 17) → Tested (eqb kind 18) → (kind ≡ 16) ⊎ ((kind ≡ 17) ⊎ (kind ≡ 18))
-    go (holds a) b c = inl (eqb-true _ _ a)
-    go (fails a) (holds b) c = inr (inl (eqb-true _ _ b))
-    go (fails a) (fails b) (holds c) = inr (inr (eqb-true _ _ c))
-    go (fails a) (fails b) (fails c) =
-        let none : byMessage kind true true true ≡ false = rw (a, b, c) in
-        absurd (true≢false (sym (not-false (byMessage kind true true true) e) ∙ none))
+kind-taken kind e = one-of-three kind 16 17 18 (not-false (byMessage kind true true true) e)
 
 module _ (l : Ledger) (m : List ℕ) (d : List Slot) (s : List ℕ) where
   -- the numbers of the rules rise, and all are above 0

@@ -8,7 +8,7 @@ use mathlib.Core.Bool.{Bool, true, false, not, cond, _&&_, _||_, or-true, false�
 use lib.ListN.{length}
 use lib.Dec.{leb, ltb, eqb}
 use borrow.Author.Tests.{ne-eqb, eqb-true, eqb-false, leb-true, leb-false, le-leb, lt-leb, ltb-true, lt-ltb, not-true, not-false}
-use Rattle.base.proofs.TestLaws.{Tested, holds, fails, test, and-both, or-other}
+use Rattle.base.proofs.TestLaws.{Tested, holds, fails, test, and-both, or-other, one-of-three}
 use Rattle.wire.specs.Numbers.{le16}
 use Rattle.wire.specs.Frame.{framed}
 use Rattle.codes.specs.Ranges.{latest}
@@ -123,15 +123,7 @@ says-3 kind = (there, λ n. ap not (of-another true true true kind (n .0) (n .1)
         (differs f 1 (of-sheet true true true kind), differs f 4 (of-outage true true true kind), differs f 5 (of-stock true true true kind))
 
 pub kind-taken : (kind : ℕ) → kindNotTaken kind ≡ false → (kind ≡ 1) ⊎ ((kind ≡ 4) ⊎ (kind ≡ 5))
-kind-taken kind e = go (of-kind true true true kind always always always .0 (not-false _ e))
-  where
-    always : (true ≡ true) ↔ Unit {0}
-    always = (λ e. tt, λ u. refl)
-
-    go : OfKind kind (Unit {0}) (Unit {0}) (Unit {0}) → (kind ≡ 1) ⊎ ((kind ≡ 4) ⊎ (kind ≡ 5))
-    go (inl (k, u)) = inl k
-    go (inr (inl (k, u))) = inr (inl k)
-    go (inr (inr (k, u))) = inr (inr k)
+kind-taken kind e = one-of-three kind 1 4 5 (not-false (byKind kind true true true) e)
 
 module _ (kind : ℕ) (s : List ℕ) where
   -- 4: 18, 14 and 11 bytes

@@ -1,7 +1,7 @@
 -- A verdict is one that the ledger has room for: an accepted event's row is a row of the ledger, and its figures stay within what one event may
 -- add. Assumes nothing.
 use Prim.Native.Nat.{ℕ, _*_, _<_, _≤_}
-use mathlib.Core.Path.{_≡_, refl, sym, _∙_, ap, subst}
+use mathlib.Core.Path.{_≡_, refl, sym, subst}
 use mathlib.Core.Logic.{_⊎_, inl, inr}
 use mathlib.Core.List.{List}
 use mathlib.Core.Bool.{Bool, true, false, cond}
@@ -9,17 +9,17 @@ use lib.Dec.{eqb, leb}
 use native.Mathlib.Omega.{arith}
 use borrow.Author.Tests.{eqb-true, eqb-false, leb-false, not-false}
 use Rattle.base.specs.First.{NoRule}
-use Rattle.base.proofs.TestLaws.{Tested, holds, fails, test, or-left, or-right}
+use Rattle.base.proofs.TestLaws.{Tested, holds, fails, test, or-left, or-right, one-of-three}
 use Rattle.wire.specs.Frame.{kindOf}
 use Rattle.codes.specs.Codes.{rows, levels, rowOf}
-use Rattle.codes.specs.Ranges.{mostEvents, latest, mostCustomers}
+use Rattle.codes.specs.Ranges.{mostEvents, mostCustomers}
 use Rattle.annex.specs.declared.Figures.{Figures}
 use Rattle.annex.specs.Figures.{nothing}
 use Rattle.annex.specs.Figure.{Figure, figureAt, mostOf}
 use Rattle.annex.specs.Times.{isShort, minutesIn}
 use Rattle.annex.specs.Inside.{Within, Few}
 use Rattle.annex.proofs.FoldLaws.{nothing-gives}
-use Rattle.annex.proofs.Bounds.{simple-within, stepped-within}
+use Rattle.annex.proofs.Bounds.{minutes-most, simple-within, stepped-within}
 use Rattle.fields.specs.declared.Sheet.{Sheet}
 use Rattle.fields.specs.declared.Head.{Head}
 use Rattle.fields.specs.Fields.{sheetIn, headIn, simpleIn, stepsIn}
@@ -35,16 +35,7 @@ use Rattle.record.proofs.JudgeLaws.{verdict-refused, verdict-accepted, 
 
 -- the kinds that are taken
 pub kind-taken : (kind : ℕ) → kindNotTaken kind ≡ false → (kind ≡ 1) ⊎ ((kind ≡ 2) ⊎ (kind ≡ 3))
-kind-taken kind e = go (test (eqb kind 1)) (test (eqb kind 2)) (test (eqb kind 3))
-  where
-    go : Tested (eqb kind 1) → Tested (eqb kind 2) → Tested (eqb kind 3) → (kind ≡ 1) ⊎ ((kind ≡ 2) ⊎ (kind ≡ 3))
-    go (holds a) b c = inl (eqb-true _ _ a)
-    go (fails a) (holds b) c = inr (inl (eqb-true _ _ b))
-    go (fails a) (fails b) (holds c) = inr (inr (eqb-true _ _ c))
-    go (fails a) (fails b) (fails c) =
-        let all : byKind kind true true true ≡ false =
-        ap (λ t. cond t true (cond (eqb kind 2) true (cond (eqb kind 3) true false))) a ∙ ap (λ t. cond t true (cond (eqb kind 3) true false)) b ∙ ap (λ t. cond t true false) c in
-        absurd (mathlib.Core.Bool.true≢false (sym (not-false (byKind kind true true true) e) ∙ all))
+kind-taken kind e = one-of-three kind 1 2 3 (not-false (byKind kind true true true) e)
 
 -- nothing is within the bounds of any number of events
 nothing-small : (n : ℕ) (x : Figure) (h : ℕ) → h < levels → figureAt x nothing h ≤ n * mostOf x
@@ -101,14 +92,6 @@ module _ (sheet : Sheet) (events : ℕ) (h : Head) (end : ℕ) (f : Figures) whe
             goes-on = inl (refl, inl there);
           }
 
-year-below : (year : ℕ) → minutesIn year ≤ latest
-unfolding minutesIn
-year-below year = go (eqb (Prim.Native.Nat._%_ year 4) 0)
-  where
-    go : (t : Bool) → cond t 527040 525600 ≤ latest
-    go true = omega arith
-    go false = omega arith
-
 module _ (s : List ℕ) (sheet : Sheet) (m : List ℕ) (events : ℕ) (most : events ≤ mostEvents) (range : sheet .there ≡ true → inRange sheet ≡ true) where
   accepted-sheet-fair : NoRule (rulesAt 1 s sheet m events) → Fair sheet events (acceptedAt 1 s sheet)
   accepted-sheet-fair c = sheet-fair sheet events most (sheetIn s) (c 5) refl (not-false _ (c 6))
@@ -137,7 +120,7 @@ module _ (s : List ℕ) (sheet : Sheet) (m : List ℕ) (events : ℕ) (most : ev
       event-fair sheet events (headIn s) _ _ there
       (leb-false mostEvents events (c 15))
       (listed-row (headIn s) (not-false _ (c 7)))
-      (stepped-within t0 (stepsIn s) (omega (arith, year-below (sheet .year))) (late-ordered t0 (stepsIn s) times)
+      (stepped-within t0 (stepsIn s) (omega (arith, minutes-most (sheet .year))) (late-ordered t0 (stepsIn s) times)
       (all-within few (stepsIn s) (c 11)))
 
   accepted-fair : (kind : ℕ) → NoRule (rulesAt kind s sheet m events) → Fair sheet events (acceptedAt kind s sheet)
