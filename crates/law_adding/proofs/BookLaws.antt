@@ -1,6 +1,6 @@
 -- A book's ledger is sound, and a sound ledger that serves anybody has a sheet. Assumes nothing.
 use Prim.Native.Nat.{ℕ}
-use mathlib.Core.Path.{_≡_, refl}
+use mathlib.Core.Path.{_≡_}
 use mathlib.Core.List.{List}
 use mathlib.Core.Bool.{Bool, true, false, _&&_, _||_, not, true≢false}
 use lib.ListN.{getD}
@@ -13,6 +13,7 @@ use Rattle.fields.specs.Tests.{inRange}
 use Rattle.ledger.specs.declared.Ledger.{Ledger}
 use Rattle.ledger.specs.Ledger.{emptyLedger}
 use Rattle.ledger.specs.Sound.{soundLedger}
+use Rattle.ledger.proofs.SoundLaws.{empty-sound}
 use Rattle.book.specs.Book.{starting}
 use Rattle.book.proofs.SoundLaws.{sound-run}
 use Rattle.law_sums.specs.Accepted.{zeroMap}
@@ -20,10 +21,6 @@ use Rattle.law_sums.specs.Theorem.{bookLedger}
 use Rattle.index.specs.declared.Level.{Level}
 use Rattle.index.specs.declared.Level.the-variants.{NN, VN, VVN, Network}
 use Rattle.index.specs.Sums.{customersOf}
-
-empty-sound : soundLedger emptyLedger ≡ true
-unfolding soundLedger
-empty-sound = refl
 
 -- whatever its records, refused ones too
 pub book-sound : (book : List ℕ) → soundLedger (bookLedger book) ≡ true

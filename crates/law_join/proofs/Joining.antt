@@ -20,15 +20,13 @@ use Rattle.codes.specs.Ranges.{mostEvents}
 use Rattle.used_numbers.specs.Marks.{marked}
 use Rattle.fields.specs.declared.Sheet.{Sheet}
 use Rattle.fields.specs.Fields.{sheetIn}
-use Rattle.verdict.specs.Verdict.{eventVerdict}
-use Rattle.ledger.specs.declared.Ledger.{Ledger}
-use Rattle.ledger.specs.Ledger.{emptyLedger, heldIn, added}
+use Rattle.ledger.specs.Ledger.{emptyLedger, heldIn}
 use Rattle.book.specs.Book.{BookState, starting, takeAll, afterBook}
 use Rattle.law_sums.specs.Accepted.{zeroMap, Accepted, shortOnes, sumOf, numberIn, allMarked}
 use Rattle.law_sums.specs.Theorem.{eventsOf, sheetsOf, bookLedger, bookMap, IsSum}
 use Rattle.law_sums.proofs.AnnexTheorem.{accepted-book-adds}
-use Rattle.law_order.specs.Each.{Right, Different, Unmarked, withEvent, withAll, onlySheet, Told}
-use Rattle.law_order.proofs.EachLaws.{right-number, right-not-sheet}
+use Rattle.law_order.specs.Each.{Right, Different, Unmarked, withAll, onlySheet, Told}
+use Rattle.law_order.proofs.EachLaws.{right-number, right-not-sheet, with-sheet}
 use Rattle.law_order.proofs.ShapeLaws.{Shape, no-bytes, sheet-then, accepted-shape, accepted-told, told-taken, told-end, told-accepted, told-counted}
 use Rattle.law_join.specs.Join.{numbersIn, SharesNone, SameSheet, joinedBook, JoinAdds}
 use Rattle.law_join.proofs.DifferentLaws.{at-most, different-append, different-shares-none, none-listed}
@@ -141,12 +139,6 @@ module _ (s : List ℕ) (xs ys : List (List ℕ)) (told₁ : Told s xs) (told₂
       room : 0 + length (xs ++ ys) ≤ mostEvents
       room = omega (arith, few, length-map (xs ++ ys) numberIn)
 
--- events leave the sheet
-all-sheet : (sheet : Sheet) (l : Ledger) (es : List (List ℕ)) → l .sheet ≡ sheet → withAll sheet l es .sheet ≡ sheet
-unfolding added eventVerdict
-all-sheet sheet l [] e = e
-all-sheet sheet l (x ∷ es) e = all-sheet sheet (withEvent sheet l x) es refl
-
 -- the sheet records of a sheet with events after it
 told-sheets : (book s : List ℕ) (es : List (List ℕ)) → recordsOf book ≡ s ∷ es → Told s es → sheetsOf book ≡ s ∷ []
 told-sheets book s es e t =
@@ -224,7 +216,7 @@ module _ (book₁ book₂ : List ℕ) (bytes₁ : Bytes book₁) (bytes₂ : Byt
       end₂ = ap (takeAll (starting emptyLedger zeroMap)) e₂ ∙ told-taken s ys told₂
 
       sheet-at : (b : List ℕ) (es : List (List ℕ)) → afterBook emptyLedger zeroMap b ≡ endOf es → bookLedger b .sheet ≡ sheetIn s
-      sheet-at b es e = ap (λ (st : BookState). st .ledger .sheet) e ∙ all-sheet (sheetIn s) (onlySheet s) es refl
+      sheet-at b es e = ap (λ (st : BookState). st .ledger .sheet) e ∙ with-sheet (sheetIn s) (onlySheet s) es refl
 
       some-joined : JoinAdds book₁ book₂
       some-joined =

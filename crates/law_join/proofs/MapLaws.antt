@@ -1,10 +1,10 @@
 -- Which numbers a map marks once events are taken: those it marked before, and the numbers of the events that it has a bit for. So two lists of events,
 -- one after the other, mark what either marks. Assumes nothing.
-use Prim.Native.Nat.{ℕ, zero, suc, _≤_}
-use mathlib.Core.Path.{_≡_, refl, sym, ap, _∙_}
+use Prim.Native.Nat.{ℕ, _≤_}
+use mathlib.Core.Path.{_≡_, sym, ap, _∙_}
 use mathlib.Core.List.{List, [], _∷_, _++_}
 use mathlib.Core.Bool.{Bool, _&&_, _||_, not, or-false, or-true, or-assoc}
-use lib.ListN.{length, replicate}
+use lib.ListN.{length, length-replicate}
 use lib.Dec.{eqb, ltb}
 use native.Mathlib.Omega.{arith}
 use borrow.Author.Tests.{eqb-true, eqb-false, ltb-true, ltb-false}
@@ -49,12 +49,8 @@ mark-all m v (s ∷ ss) size =
     or-assoc (marked m v) (hits v (numberIn s)) rest
 
 -- from the all-zero map, which marks nothing
-zero-size : (n : ℕ) → length {A = ℕ} (replicate n 0) ≡ n
-zero-size zero = refl
-zero-size (suc n) = ap suc (zero-size n)
-
 from-zero : (v : ℕ) (ss : List (List ℕ)) → marked (allMarked zeroMap ss) v ≡ any (λ (s : List ℕ). hits v (numberIn s)) ss
-from-zero v ss = mark-all zeroMap v ss (zero-size mapSize) ∙ ap (λ (t : Bool). t || any (λ (s : List ℕ). hits v (numberIn s)) ss) (zero-unmarked v)
+from-zero v ss = mark-all zeroMap v ss (length-replicate {A = ℕ} mapSize 0) ∙ ap (λ (t : Bool). t || any (λ (s : List ℕ). hits v (numberIn s)) ss) (zero-unmarked v)
 
 -- from the all-zero map, two lists of events one after the other mark just the numbers that either marks
 pub marks-append :

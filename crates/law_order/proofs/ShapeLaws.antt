@@ -31,7 +31,7 @@ use Rattle.ledger.specs.Sound.{soundLedger}
 use Rattle.ledger.specs.Take.{answerOf, ledgerAfter, mapAfter}
 use Rattle.ledger.proofs.CellLaws.{added-sheet}
 use Rattle.ledger.proofs.TakeLaws.{answer-judged, accepted-verdict, accepted-adds}
-use Rattle.ledger.proofs.SoundLaws.{sound-stays-sound}
+use Rattle.ledger.proofs.SoundLaws.{sound-stays-sound, empty-sound}
 use Rattle.records.specs.Records.{isBroken}
 use Rattle.book.specs.Book.{BookState, starting, takeRecord, takeAll, afterBook}
 use Rattle.book.proofs.RunLaws.{sound-taken, refusedIn, answerIn, refused-counted}
@@ -40,11 +40,7 @@ use Rattle.law_sums.specs.Theorem.{eventsOf}
 use Rattle.law_order.specs.Each.{Right, withAll, onlySheet, Told}
 use Rattle.law_order.proofs.EachLaws.{Ready, right-kind, right-not-sheet, each-taken, each-accepted}
 
--- the start of a book is sound, and its map of the right size
-empty-sound : soundLedger emptyLedger ≡ true
-unfolding soundLedger
-empty-sound = refl
-
+-- the map at the start of a book has its size
 zero-size : length zeroMap ≡ mapSize
 zero-size = length-replicate {A = ℕ} mapSize 0
 
