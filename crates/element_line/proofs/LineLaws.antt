@@ -1,5 +1,5 @@
 -- The three ways of a line; what a rate is per; and a line fits its text whatever the table, where the name has at most 100 bytes. Assumes nothing.
-use Prim.Native.Nat.{ℕ, _+_, _≤_, _/_}
+use Prim.Native.Nat.{ℕ, _≤_, _/_}
 use mathlib.Core.Path.{_≡_, refl, ap, _∙_}
 use mathlib.Core.Bool.{true, false, cond}
 use mathlib.Core.List.{List, [], _∷_, _++_}
@@ -17,7 +17,7 @@ use Rattle.element_rates.specs.declared.Figure.the-variants.{Is, Refused}
 use Rattle.element_rates.specs.Rates.{rowAt, weightOf, rateOf, meanOf, shownRate, shownMean}
 use Rattle.text.specs.declared.Text.{Text}
 use Rattle.text.specs.Text.{textOf, pushed, pushedAll, numberText, twoText}
-use Rattle.text.proofs.TextLaws.{pushed-all-append, all-fits, number-length}
+use Rattle.text.proofs.TextLaws.{pushed-all-append, all-fits, number-length, both-short}
 use Rattle.element_line.specs.Listing.{fractionText, sixText, pieceWord, hundredWord, perText, lineText, lineOf, headingText}
 
 module _ (t : Table) (code : ℕ) (name : List ℕ) where
@@ -50,10 +50,6 @@ per-as-weighed stock told = go (test (eqb stock 2))
     go : Tested (eqb stock 2) → perText stock ≡ cond (eqb (weightOf stock) 1000) hundredWord pieceWord
     go (holds e) = rw (told, e) refl
     go (fails e) = rw (told, e) refl
-
--- lengths add up
-both-short : (a b : List ℕ) {m n : ℕ} → length a ≤ m → length b ≤ n → length (a ++ b) ≤ m + n
-both-short a b h k = rw (length-append a b) (omega arith)
 
 fraction-length : (f : Figure) → length (fractionText f) ≤ 41
 fraction-length (Is f) =

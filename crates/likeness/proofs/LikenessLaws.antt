@@ -1,7 +1,7 @@
 -- A word in whichever letters and letters behind gaps, one byte at a time. Assumes nothing.
 use Prim.Native.Nat.{ℕ, _+_, _<_, _≤_}
 use mathlib.Core.Path.{_≡_, refl, sym, ap, _∙_}
-use mathlib.Core.Bool.{Bool, true, false, _&&_}
+use mathlib.Core.Bool.{Bool, true, false, _&&_, and-false}
 use mathlib.Core.List.{List, [], _∷_}
 use lib.Dec.{eqb}
 use lib.ListN.{length, drop, getD, drop-of-length-le}
@@ -12,15 +12,11 @@ use borrow.Author.Tests.{ne-eqb, eq-eqb}
 use Rattle.text_scan.specs.Scan.{isGap, partedHere}
 use Rattle.likeness.specs.Likeness.{isLetter, lowered, beginsAlike, isAlike, lettersIn}
 
-neither : (a b : Bool) → b ≡ false → (a && b) ≡ false
-neither true b e = e
-neither false b e = refl
-
 -- a line that is shorter than a word
 pub alike-short : (s w : List ℕ) → length s < length w → beginsAlike s w ≡ false
 alike-short s [] h = let no : ⊥ = omega arith in absurd no
 alike-short [] (w ∷ ws) h = refl
-alike-short (b ∷ s) (w ∷ ws) h = let g : length s < length ws = omega arith in neither (eqb (lowered b) w) (beginsAlike s ws) (alike-short s ws g)
+alike-short (b ∷ s) (w ∷ ws) h = let g : length s < length ws = omega arith in ap (λ t. eqb (lowered b) w && t) (alike-short s ws g) ∙ and-false (eqb (lowered b) w)
 
 -- what is left of a line and of a word, by their first bytes
 module _ (s w : List ℕ) (i : ℕ) where

@@ -18,7 +18,7 @@ use Rattle.index.specs.declared.Index.the-variants.{Saifi, Saidi, Caidi}
 use Rattle.index.specs.Index.{shownIndex}
 use Rattle.text.specs.declared.Text.{Text}
 use Rattle.text.specs.Text.{textOf, pushedAll, numberText, twoText}
-use Rattle.text.proofs.TextLaws.{pushed-all-append, all-fits, number-length}
+use Rattle.text.proofs.TextLaws.{pushed-all-append, all-fits, number-length, both-short}
 use Rattle.report.specs.Report.{figureText, levelWord, setWord, indexText, lineText, yearText, headText, linesText, reportText, reportOf}
 
 -- eight pieces, each pushed after the one before, are pushed as one
@@ -28,10 +28,6 @@ pub eight-pieces :
     r₅ ≡ pushedAll r₄ e → r₆ ≡ pushedAll r₅ f → r₇ ≡ pushedAll r₆ g → r₈ ≡ pushedAll r₇ h →
     r₈ ≡ pushedAll t (a ++ b ++ c ++ d ++ e ++ f ++ g ++ h)
 eight-pieces t a b c d e f g h p₁ p₂ p₃ p₄ p₅ p₆ p₇ p₈ = simp (pushed-all-append, p₈, p₇, p₆, p₅, p₄, p₃, p₂, p₁)
-
--- lengths add up
-both-short : (a b : List ℕ) {m n : ℕ} → length a ≤ m → length b ≤ n → length (a ++ b) ≤ m + n
-both-short a b h k = rw (length-append a b) (omega arith)
 
 figure-length : (s : Shown) → length (figureText s) ≤ 23
 figure-length (Is d) = both-short (numberText (d .whole)) (46 ∷ twoText (d .digits)) {n = 3} (number-length (d .whole)) (omega arith)

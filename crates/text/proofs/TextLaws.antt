@@ -71,7 +71,8 @@ last-digit-alone k n h = rw (lt-ltb n 10 h) refl
 pub last-digit-after : (k n : ℕ) → 10 ≤ n → digitsIn (suc k) n ≡ (digitsIn k (n / 10) ++ ((48 + n % 10) ∷ []))
 last-digit-after k n h = rw (le-ltb n 10 h) refl
 
-tenth-below : (n k : ℕ) → n < 10 ^ suc k → n / 10 < 10 ^ k
+-- a tenth of a number has a digit less
+pub tenth-below : (n k : ℕ) → n < 10 ^ suc k → n / 10 < 10 ^ k
 tenth-below n k h =
     let p : 10 ^ suc k ≡ 10 ^ k * 10 = pow-suc 10 k in
     let q : n / 10 * 10 ≤ n = omega arith in
@@ -108,6 +109,10 @@ digits-length (suc k) n = go (digits-length k (n / 10)) (test (ltb n 10))
 pub number-length : (n : ℕ) → length (numberText n) ≤ 20
 unfolding numberText
 number-length n = digits-length 20 n
+
+-- lengths add up
+pub both-short : (a b : List ℕ) {m n : ℕ} → length a ≤ m → length b ≤ n → length (a ++ b) ≤ m + n
+both-short a b h k = rw (length-append a b) (omega arith)
 
 abbrev pub isDigit : ℕ → Bool
 isDigit b = leb 48 b && leb b 57

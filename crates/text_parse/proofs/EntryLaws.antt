@@ -1,7 +1,7 @@
 -- The cases of the readings of a line, one law each: a word in front, the next item, and the items that are left once some are read. Assumes nothing.
 use Prim.Native.Nat.{ℕ, zero, suc, _+_, _-_, _<_, _≤_}
 use mathlib.Core.Path.{_≡_, refl, sym, ap, _∙_, subst⁻¹}
-use mathlib.Core.Bool.{Bool, true, false, _&&_, not, cond}
+use mathlib.Core.Bool.{Bool, true, false, _&&_, and-false, not, cond}
 use mathlib.Core.List.{List, [], _∷_, _++_}
 use lib.Dec.{eqb, ltb, leb}
 use lib.ListN.{length, take, drop, getD, set, replicate, length-take, length-drop, length-replicate, drop-of-length-le}
@@ -26,15 +26,11 @@ module _ {X : Type 0} (x y : X) where
   pub passed-over : (t : Bool) → t ≡ false → cond t x y ≡ y
   passed-over t e = ap (λ (u : Bool). cond u x y) e
 
-neither : (a b : Bool) → b ≡ false → (a && b) ≡ false
-neither true b e = e
-neither false b e = refl
-
 -- a line that is shorter than a word
 pub begins-short : (s w : List ℕ) → length s < length w → beginsWith s w ≡ false
 begins-short s [] h = let no : ⊥ = omega arith in absurd no
 begins-short [] (w ∷ ws) h = refl
-begins-short (b ∷ s) (w ∷ ws) h = let g : length s < length ws = omega arith in neither (eqb b w) (beginsWith s ws) (begins-short s ws g)
+begins-short (b ∷ s) (w ∷ ws) h = let g : length s < length ws = omega arith in ap (λ t. eqb b w && t) (begins-short s ws g) ∙ and-false (eqb b w)
 
 -- what is left of a line and of a word, by their first bytes
 module _ (s w : List ℕ) (i : ℕ) where

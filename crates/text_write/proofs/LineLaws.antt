@@ -8,13 +8,12 @@ use lib.ListN.{length, take, drop, getD, length-take, length-append, drop-of-len
 use lib.Dec.{eqb, ltb, leb}
 use lib.Seq.{drop-cons, getD-take}
 use native.Mathlib.Omega.{arith}
-use native.Mathlib.Nat.{pow-suc}
 use native.Mathlib.Numerals.{add-one}
 use borrow.Author.Tests.{ltb-true, ltb-false, eq-eqb, ne-eqb, le-leb, lt-leb}
 use Rattle.annex.specs.Times.{minutesIn}
 use Rattle.base.proofs.TestLaws.{Tested, holds, fails, test}
 use Rattle.text.specs.Text.{numberText}
-use Rattle.text.proofs.TextLaws.{number-ends, number-unrolls}
+use Rattle.text.proofs.TextLaws.{tenth-below, number-ends, number-unrolls}
 use Rattle.pen.specs.Pen.{Spot, pushedAll, hexText}
 use Rattle.pen.proofs.PenLaws.{pushed-all-append}
 use Rattle.text_items.specs.declared.Entry.{Entry}
@@ -109,12 +108,6 @@ values-end s kind year k count values h = let long : length (take count values) 
 one-of-two : (b : Bool) (x y : List ℕ) (n : ℕ) → length x ≤ n → length y ≤ n → length (cond b x y) ≤ n
 one-of-two true x y n h l = h
 one-of-two false x y n h l = l
-
-tenth-below : (n k : ℕ) → n < 10 ^ suc k → n / 10 < 10 ^ k
-tenth-below n k h =
-    let p : 10 ^ suc k ≡ 10 ^ k * 10 = pow-suc 10 k in
-    let q : n / 10 * 10 ≤ n = omega arith in
-    omega arith
 
 -- a number below ten to the (k + 1)-th has at most k + 1 digits
 number-within : (k n : ℕ) → n < 10 ^ suc k → n < 10 ^ 20 → length (numberText n) ≤ suc k
