@@ -2,16 +2,14 @@
 -- gone by. Assumes nothing.
 use Prim.Native.Nat.{ℕ, _+_, _*_, _-_, _<_, _≤_, max}
 use mathlib.Core.Path.{_≡_, refl, sym, _∙_, ap, subst}
-use mathlib.Core.List.{List, [], _∷_}
-use mathlib.Core.Bool.{Bool, true, false, _&&_, _||_, not}
+use mathlib.Core.List.{List}
+use mathlib.Core.Bool.{Bool, true, false, _&&_, _||_, and-false}
 use lib.ListN.{getD}
 use lib.Dec.{leb, ltb, eqb}
 use native.Mathlib.Omega.{arith}
 use native.Mathlib.Nat.{mul-le-mul-right, mul-add, le-max-left, le-max-right, max-le}
 use borrow.Author.Tests.{eq-eqb, le-leb, ltb-false, lt-ltb, le-ltb}
-use Rattle.base.specs.Lists.{All}
 use Rattle.base.proofs.TestLaws.{and-both, or-left, or-right, or-both}
-use Rattle.base.proofs.ChainLaws.{andOf}
 use Rattle.codes.specs.Codes.{levels, levelOf}
 use Rattle.codes.specs.Ranges.{latest, mostCustomers}
 use Rattle.annex.specs.declared.Figures.{Figures}
@@ -25,12 +23,8 @@ use Rattle.fields.specs.Tests.{headListed}
 use Rattle.limits.specs.Limits.{aboveLevel, figuresAbove}
 use Rattle.slot.specs.declared.Slot.{Slot}
 use Rattle.slot.specs.Slot.{openedBy, steppedBy}
-use Rattle.slot.specs.Sound.{noCustomers, levelWithin, openSound, slotSound}
-use Rattle.slot.proofs.SoundLaws.{open-listed, open-begins, open-in-order, open-customers, open-halves, open-none-above, open-is-sound}
-
-each-joins : (t : Bool) (us : List Bool) → All (λ b. b ≡ true) (t ∷ us) → andOf t us ≡ true
-each-joins t [] k = k .0
-each-joins t (u ∷ us) k = each-joins (t && u) us (and-both t u (k .0) (k .1 .0), k .1 .1)
+use Rattle.slot.specs.Sound.{noCustomers, openSound, slotSound}
+use Rattle.slot.proofs.SoundLaws.{open-listed, open-begins, open-in-order, open-customers, open-halves, open-none-above, open-is-sound, within, last-decides}
 
 -- the tests of an open slot, put together
 open-of :
@@ -45,35 +39,10 @@ open-of :
     figuresAbove (levelOf (s .head .voltage)) (s .figures) ≡ false →
     (ltb 0 (s .steps) || (eqb (s .last) (s .head .t0) && noCustomers (s .figures))) ≡ true →
     openSound s ≡ true
-unfolding openSound
 open-of s listed early begun ended few most brief below unstepped =
-    each-joins (headListed (s .head))
-    (ltb (s .head .t0) 527040 ∷ leb (s .head .t0) (s .last) ∷ leb (s .last) latest ∷ leb (s .steps) 64 ∷ within 0 ∷ within 1 ∷ within 2
-    ∷ not (figuresAbove (levelOf (s .head .voltage)) (s .figures))
-    ∷ (ltb 0 (s .steps) || (eqb (s .last) (s .head .t0) && noCustomers (s .figures))) ∷ []) (
-      listed,
-      (
-        lt-ltb _ _ early,
-        (
-          le-leb _ _ begun,
-          (
-            le-leb _ _ ended,
-            (
-              le-leb _ _ few,
-              (
-                level 0 (omega arith),
-                (level 1 (omega arith), (level 2 (omega arith), (ap not below, (unstepped, tt)))),
-              ),
-            ),
-          ),
-        ),
-      ),
-    )
+    sym (last-decides s listed early begun ended few (level 0 (omega arith)) (level 1 (omega arith)) (level 2 (omega arith)) below) ∙ unstepped
   where
-    within : ℕ → Bool
-    within h = levelWithin (customersAt (s .figures) h) (halvesAt (s .figures) h) (s .last - s .head .t0)
-
-    level : (h : ℕ) → h < levels → within h ≡ true
+    level : (h : ℕ) → h < levels → within s h ≡ true
     level h l =
         and-both (leb (customersAt (s .figures) h) mostCustomers) (leb (halvesAt (s .figures) h) (2 * customersAt (s .figures) h * (s .last - s .head .t0)))
         (le-leb _ _ (most h l)) (le-leb _ _ (brief h l))
@@ -86,11 +55,7 @@ nothing-halves : (h : ℕ) → h < levels → halvesAt nothing h ≡ 0
 nothing-halves = each-level _ refl refl refl
 
 nothing-below : (level : ℕ) → figuresAbove level nothing ≡ false
-nothing-below level = or-both (ltb level 1 && false) (ltb level 2 && false) (no (ltb level 1)) (no (ltb level 2))
-  where
-    no : (t : Bool) → (t && false) ≡ false
-    no true = refl
-    no false = refl
+nothing-below level = or-both (ltb level 1 && false) (ltb level 2 && false) (and-false (ltb level 1)) (and-false (ltb level 2))
 
 -- a slot opened by a listed head with T0 below 527,040 is sound, by an open slot's list and so as a slot
 pub opened-open : (h : Head) → headListed h ≡ true → h .t0 < 527040 → openSound (openedBy h) ≡ true
