@@ -7,7 +7,7 @@ use lib.ListN.{length, replicate}
 use lib.Dec.{eqb, leb}
 use native.Mathlib.Omega.{arith}
 use borrow.Author.Tests.{ne-eqb}
-use Rattle.base.specs.Lists.{place}
+use Rattle.base.proofs.PlaceLaws.{number-at-most}
 use Rattle.codes.specs.Codes.{types, rows, levels, rowOf, levelOf, causes, causeListed, rowHeld}
 use Rattle.codes.specs.declared.Set.{Set}
 use Rattle.codes.specs.declared.Set.the-variants.{All, Std, Unnamed}
@@ -26,18 +26,9 @@ compliance-by-row (suc (suc (suc (suc (suc (suc (suc n))))))) =
     let m : ℕ = suc (suc (suc (suc (suc (suc (suc n)))))) in
     rw (ne-eqb m 0 (λ e. omega arith), ne-eqb m 1 (λ e. omega arith), ne-eqb m 6 (λ e. omega arith))
 
--- no place lies past the end of its list
-place-at-most : (x : ℕ) (xs : List ℕ) → place x xs ≤ length xs
-place-at-most x [] = omega arith
-place-at-most x (y ∷ ys) = go (eqb x y) (place-at-most x ys)
-  where
-    go : (t : Bool) → place x ys ≤ length ys → cond t 0 (suc (place x ys)) ≤ suc (length ys)
-    go true h = omega arith
-    go false h = omega arith
-
 pub row-at-most : (typ : ℕ) → rowOf typ ≤ rows
 unfolding rowOf
-row-at-most typ = place-at-most typ types
+row-at-most typ = number-at-most typ types
 
 pub level-at-most : (voltage : ℕ) → levelOf voltage ≤ levels
 unfolding levelOf

@@ -9,19 +9,20 @@ use borrow.Author.Tests.{ltb-true, leb-true, eqb-false, not-true}
 use Rattle.base.specs.Lists.{All}
 use Rattle.base.proofs.ChainLaws.{each-holds}
 use Rattle.codes.specs.Codes.{rowOf, levelOf, causeListed, rows, levels}
+use Rattle.codes.specs.Ranges.{mostCustomers}
 use Rattle.annex.specs.Inside.{Few}
 use Rattle.fields.specs.declared.Sheet.{Sheet}
 use Rattle.fields.specs.declared.Head.{Head}
 use Rattle.fields.specs.Tests.{inRange, headListed}
 
 -- a sheet in range has at most 10,000,000 customers on each level
-pub range-few : (sheet : Sheet) → inRange sheet ≡ true → Few 10000000 (sheet .totals)
+pub range-few : (sheet : Sheet) → inRange sheet ≡ true → Few mostCustomers (sheet .totals)
 range-few sheet e =
     let k =
     each-holds
     (leb 2000 (sheet .year))
-    (leb (sheet .year) 2099 ∷ leb (getD (sheet .totals) 0 0) 10000000 ∷ leb (getD (sheet .totals) 1 0) 10000000
-    ∷ leb (getD (sheet .totals) 2 0) 10000000 ∷ [])
+    (leb (sheet .year) 2099 ∷ leb (getD (sheet .totals) 0 0) mostCustomers ∷ leb (getD (sheet .totals) 1 0) mostCustomers
+    ∷ leb (getD (sheet .totals) 2 0) mostCustomers ∷ [])
     e in
     record { nn = leb-true _ _ (k .1 .1 .0); vn = leb-true _ _ (k .1 .1 .1 .0); vvn = leb-true _ _ (k .1 .1 .1 .1 .0) }
 
