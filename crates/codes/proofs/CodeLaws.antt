@@ -3,13 +3,18 @@ use Prim.Native.Nat.{ℕ, zero, suc, _+_, _-_, _<_, _≤_}
 use mathlib.Core.Path.{_≡_, refl, sym, ap, _∙_}
 use mathlib.Core.Bool.{Bool, true, false, _&&_, _||_, cond, false≢true}
 use mathlib.Core.List.{List, [], _∷_, map}
-use lib.ListN.{length, replicate}
+use lib.ListN.{length, replicate, getD, drop, drop-of-length-le}
+use lib.Seq.{drop-cons}
 use lib.Dec.{eqb, leb}
+use native.Mathlib.Numerals.{add-one}
 use native.Mathlib.Omega.{arith}
-use borrow.Author.Tests.{ne-eqb}
+use borrow.Author.Tests.{eq-eqb, ne-eqb, leb-true, le-leb, lt-leb}
+use Rattle.base.specs.Lists.{every}
+use Rattle.base.proofs.TestLaws.{and-left, and-right}
 use Rattle.base.proofs.PlaceLaws.{number-at-most}
-use Rattle.codes.specs.Codes.{types, rows, levels, rowOf, levelOf, causes, causeListed, rowHeld}
+use Rattle.codes.specs.Codes.{types, rows, levels, rowOf, voltages, levelIn, levelOf, levelByRanges, causes, causeListed, rowHeld}
 use Rattle.codes.specs.declared.Set.{Set}
+use Rattle.codes.specs.declared.Voltage.{Voltage}
 use Rattle.codes.specs.declared.Set.the-variants.{All, Std, Unnamed}
 
 -- the compliance figures by the rows of their types
@@ -30,15 +35,53 @@ pub row-at-most : (typ : ℕ) → rowOf typ ≤ rows
 unfolding rowOf
 row-at-most typ = number-at-most typ types
 
+-- a lookup in a table, row by row, as a loop meets it
+module _ (voltage : ℕ) (t : List Voltage) (i : ℕ) where
+  in-one : i < length t → levelIn voltage (drop i t) ≡ cond (eqb voltage (getD t i (0, 0) .0)) (getD t i (0, 0) .1) (levelIn voltage (drop (i + 1) t))
+  in-one l = rw (add-one, drop-cons t i (0, 0) l) refl
+
+  -- the row at i has the code
+  pub in-here : i < length t → voltage ≡ getD t i (0, 0) .0 → levelIn voltage (drop i t) ≡ getD t i (0, 0) .1
+  in-here l e = in-one l ∙ ap (λ b. cond b (getD t i (0, 0) .1) (levelIn voltage (drop (i + 1) t))) (eq-eqb voltage (getD t i (0, 0) .0) e)
+
+  -- it has another
+  pub in-past : i < length t → (voltage ≡ getD t i (0, 0) .0 → ⊥) → levelIn voltage (drop i t) ≡ levelIn voltage (drop (i + 1) t)
+  in-past l n = in-one l ∙ ap (λ b. cond b (getD t i (0, 0) .1) (levelIn voltage (drop (i + 1) t))) (ne-eqb voltage (getD t i (0, 0) .0) n)
+
+  -- no row is left
+  pub in-none : length t ≤ i → levelIn voltage (drop i t) ≡ levels
+  in-none h = ap (levelIn voltage) (drop-of-length-le t h)
+
+-- no row of the table has a level past the last
+in-at-most : (voltage : ℕ) (rs : List Voltage) → every (λ r. leb (r .1) levels) rs ≡ true → levelIn voltage rs ≤ levels
+in-at-most voltage [] h = omega arith
+in-at-most voltage (r ∷ rs) h =
+    let rest : Bool = every (λ x. leb (x .1) levels) rs in
+    go (eqb voltage (r .0)) (leb-true (r .1) levels (and-left (leb (r .1) levels) rest h)) (in-at-most voltage rs (and-right (leb (r .1) levels) rest h))
+  where
+    go : (t : Bool) → r .1 ≤ levels → levelIn voltage rs ≤ levels → cond t (r .1) (levelIn voltage rs) ≤ levels
+    go true a b = a
+    go false a b = b
+
 pub level-at-most : (voltage : ℕ) → levelOf voltage ≤ levels
 unfolding levelOf
-level-at-most voltage = go (eqb voltage 1) (leb 2 voltage && leb voltage 6) (eqb voltage 7)
-  where
-    go : (a b c : Bool) → cond a 0 (cond b 1 (cond c 2 levels)) ≤ levels
-    go true b c = omega arith
-    go false true c = omega arith
-    go false false true = omega arith
-    go false false false = omega arith
+level-at-most voltage = in-at-most voltage voltages refl
+
+-- the table answers what the ranges answer, for every number and so for every byte
+pub table-by-ranges : (voltage : ℕ) → levelOf voltage ≡ levelByRanges voltage
+unfolding levelOf
+table-by-ranges zero = refl
+table-by-ranges (suc zero) = refl
+table-by-ranges (suc (suc zero)) = refl
+table-by-ranges (suc (suc (suc zero))) = refl
+table-by-ranges (suc (suc (suc (suc zero)))) = refl
+table-by-ranges (suc (suc (suc (suc (suc zero))))) = refl
+table-by-ranges (suc (suc (suc (suc (suc (suc zero)))))) = refl
+table-by-ranges (suc (suc (suc (suc (suc (suc (suc zero))))))) = refl
+table-by-ranges (suc (suc (suc (suc (suc (suc (suc (suc n)))))))) =
+    let m : ℕ = suc (suc (suc (suc (suc (suc (suc (suc n))))))) in
+    let other : (k : ℕ) → k ≤ 7 → eqb m k ≡ false = λ k l. ne-eqb m k (λ e. omega arith) in
+    rw (other 1 (omega arith), other 2 (omega arith), other 3 (omega arith), other 4 (omega arith), other 5 (omega arith), other 6 (omega arith), other 7 (omega arith), le-leb 2 m (omega arith), lt-leb m 6 (omega arith)) refl
 
 -- 0, not recorded, counts as listed
 pub cause-zero : causeListed 0 ≡ true

@@ -6,6 +6,7 @@ use lib.ListN.{getD}
 use lib.Dec.{leb, ltb, eqb}
 use Rattle.base.specs.Lists.{listed, place}
 use Rattle.codes.specs.declared.Set.{Set}
+use Rattle.codes.specs.declared.Voltage.{Voltage}
 use Rattle.codes.specs.declared.Set.the-variants.{All, Std, Unnamed}
 
 -- 9.2: "Types: 11, 12, 13, 14, 15, 16 and 2 (planned). The group code 1 is not taken." A type's row in the ledger is its place here.
@@ -19,12 +20,41 @@ rows = 7
 unfoldable pub rowOf : ℕ → ℕ
 rowOf typ = place typ types
 
--- 9.4: "Voltage 1 is NN, 2 to 6 VN, 7 VVN." The levels are 0, 1 and 2, NN lowest; a code that is not listed has level 3.
+-- the levels are 0, 1 and 2, NN lowest
 abbrev pub levels : ℕ
 levels = 3
 
+abbrev NN : ℕ
+NN = 0
+
+abbrev VN : ℕ
+VN = 1
+
+abbrev VVN : ℕ
+VVN = 2
+
+-- 9.4 in its order: a code, its level, and beside them the annex's voltage. "Voltage 1 is NN, 2 to 6 VN, 7 VVN."
+abbrev pub voltages : List Voltage
+voltages =
+    (1, NN) ∷  -- 0,4 kV
+    (2, VN) ∷  -- 3 kV
+    (3, VN) ∷  -- 6 kV
+    (4, VN) ∷  -- 10 kV
+    (5, VN) ∷  -- 22 kV
+    (6, VN) ∷  -- 35 kV
+    (7, VVN) ∷ []  -- 110 kV
+
+-- the level in the first row that has the code; a code that is not listed has the level past the last
+abbrev pub levelIn : ℕ → List Voltage → ℕ
+levelIn voltage [] = levels
+levelIn voltage (r ∷ rs) = cond (eqb voltage (r .0)) (r .1) (levelIn voltage rs)
+
 unfoldable pub levelOf : ℕ → ℕ
-levelOf voltage = cond (eqb voltage 1) 0 (cond (leb 2 voltage && leb voltage 6) 1 (cond (eqb voltage 7) 2 levels))
+levelOf voltage = levelIn voltage voltages
+
+-- the same by ranges, for every number (`CodeLaws.table-by-ranges`)
+abbrev pub levelByRanges : ℕ → ℕ
+levelByRanges voltage = cond (eqb voltage 1) 0 (cond (leb 2 voltage && leb voltage 6) 1 (cond (eqb voltage 7) 2 levels))
 
 -- 9.6, as printed; "0 means not recorded and counts as listed"
 unfoldable pub causes : List ℕ

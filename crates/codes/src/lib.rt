@@ -1,7 +1,7 @@
 // The code lists of section 9 of the annex: event types and their rows in the ledger, voltages and their levels, causes, and the sets of types.
 ghost use mathlib.Core.Path.{_≡_};
 ghost use Rattle.base.specs.Lists.{listed};
-ghost use Rattle.codes.specs.Codes.{rowOf, levelOf, causeListed, rowHeld};
+ghost use Rattle.codes.specs.Codes.{rowOf, levelIn, levelOf, causeListed, rowHeld};
 
 // How many rows the ledger has, one for each event type, and how many levels: NN, VN, VVN.
 pub const ROWS: usize = 7;
@@ -19,6 +19,27 @@ pub const LATEST: u32 = 600000;
 pub const MOST_CUSTOMERS: u32 = 10000000;
 
 pub const MOST_EVENTS: u16 = 65535;
+
+// The levels, lowest first.
+const NN: u8 = 0;
+
+const VN: u8 = 1;
+
+const VVN: u8 = 2;
+
+// A row of the voltage table: a code and its level.
+struct Voltage(u8, u8);
+
+// Section 9.4 in its order, with its voltages beside the codes.
+const VOLTAGES: [Voltage; 7] = [
+    Voltage(1, NN), // 0,4 kV
+    Voltage(2, VN), // 3 kV
+    Voltage(3, VN), // 6 kV
+    Voltage(4, VN), // 10 kV
+    Voltage(5, VN), // 22 kV
+    Voltage(6, VN), // 35 kV
+    Voltage(7, VVN), // 110 kV
+];
 
 // Section 9.6, as printed.
 const CAUSES: [u8; 22] = [
@@ -67,21 +88,26 @@ pub fn row_of(typ: u8) -> u8
     NO_ROW
 }
 
-// The level of a voltage code: 0 NN, 1 VN, 2 VVN; NO_LEVEL where the code is not listed.
+// The lookup: the level in the first row that has the code; NO_LEVEL where none has it.
+fn level_in(table: [Voltage; 7], voltage: u8) -> u8
+    ensures { λ r. ⌜ r ≡ levelIn voltage table ⌝ }
+{
+    let mut i = 0;
+    while i < 7 {
+        let row = table[i];
+        if voltage == row.0 {
+            return row.1;
+        }
+        i += 1;
+    }
+    NO_LEVEL
+}
+
+// The level of a voltage code; NO_LEVEL where the code is not listed.
 pub fn level_of(voltage: u8) -> u8
     ensures { λ r. ⌜ r ≡ levelOf voltage ⌝ }
 {
-    if voltage == 1 {
-        return 0;
-    }
-    let vn = (2 <= voltage) & (voltage <= 6);
-    if vn {
-        return 1;
-    }
-    if voltage == 7 {
-        return 2;
-    }
-    NO_LEVEL
+    level_in(VOLTAGES, voltage)
 }
 
 // The lookup, in a table of 22 codes. At a constant table the compiler makes one test of bits of it.
