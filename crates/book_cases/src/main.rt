@@ -18,6 +18,7 @@
 //   next OFFSET BYTES          a reader of them at an offset: its answer, the size of its record, the offset of the reader in it, and what that one answers
 //   count BYTES                a reader of them, asked on: how many records it gave, the offset where it was left, and its last answer
 //   events                     the ledger's events
+//   levels FIRST LAST          the level of each voltage code from the first to the last
 //   row TYPE                   customers and half minutes of a type on NN, VN, VVN
 // All but a RECORD are told by their first letter, and numbers are found whatever stands between them. What begins as no line or case does is printed
 // as such.
@@ -439,7 +440,17 @@ fn print_row(l: Ledger, typ: u64) {
     }
 }
 
-// What is asked of the ledger or of the ready bytes, which stay as they are.
+fn print_levels(first: u64, last: u64) {
+    let mut code: usize = 0;
+    while code < 256 {
+        if (first <= code as u64) & (code as u64 <= last) {
+            number(codes::level_of((code % 256) as u8) as u64);
+        }
+        code += 1;
+    }
+}
+
+// What is asked of the codes, the ledger or the ready bytes, which stay as they are.
 fn tell(b: Bench, what: &[u8]) {
     let l = b.ledger;
     let bytes = b.bytes;
@@ -449,6 +460,7 @@ fn tell(b: Bench, what: &[u8]) {
         b'e' => number(l.events as u64),
         b'n' => ask(bytes, what),
         b'c' => count(bytes, what),
+        b'l' => print_levels(v[0], v[1]),
         _ => print_row(l, v[0]),
     }
 }
@@ -459,7 +471,7 @@ fn run_asked(b: Bench, what: &[u8]) -> Bench {
     match letter {
         b'a' | b'm' => taken(b, letter, past_word(what)),
         b'b' => read(b, past_word(what)),
-        b'c' | b'e' | b'n' | b'r' => {
+        b'c' | b'e' | b'l' | b'n' | b'r' => {
             tell(b, what);
             b
         }
