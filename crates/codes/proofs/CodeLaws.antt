@@ -112,20 +112,20 @@ gaps-computed = refl
 abbrev pub heldRows : Set → List Bool
 heldRows set = map (rowHeld set) (0 ∷ 1 ∷ 2 ∷ 3 ∷ 4 ∷ 5 ∷ 6 ∷ 7 ∷ [])
 
--- 'std' holds the rows of 11, 12 and 2 and no other; 'all' and no set named hold the row of each type, and not the row past the last
+-- 'std' and no set named hold the rows of 11, 12 and 2 and no other; 'all' holds the row of each type, and not the row past the last
 pub held-computed :
-    map heldRows (Std ∷ All ∷ Unnamed ∷ [])
+    map heldRows (Std ∷ Unnamed ∷ All ∷ [])
     ≡ ((true ∷ true ∷ false ∷ false ∷ false ∷ false ∷ true ∷ false ∷ [])
-    ∷ (true ∷ true ∷ true ∷ true ∷ true ∷ true ∷ true ∷ false ∷ [])
+    ∷ (true ∷ true ∷ false ∷ false ∷ false ∷ false ∷ true ∷ false ∷ [])
     ∷ (true ∷ true ∷ true ∷ true ∷ true ∷ true ∷ true ∷ false ∷ [])
     ∷ [])
 unfolding rowHeld
 held-computed = refl
 
--- a request that names no set means 'all'
-pub unnamed-is-all : (row : ℕ) → rowHeld Unnamed row ≡ rowHeld All row
+-- a request that names no set means 'std'
+pub unnamed-is-std : (row : ℕ) → rowHeld Unnamed row ≡ rowHeld Std row
 unfolding rowHeld
-unnamed-is-all row = refl
+unnamed-is-std row = refl
 
 -- faults, planned work, and what is neither
 fault-row : (k : ℕ) → k < 6 → rowOf (11 + k) ≡ k

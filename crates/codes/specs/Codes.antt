@@ -67,8 +67,8 @@ causeListed cause = eqb cause 0 || listed cause causes
 abbrev pub compliance : List ℕ
 compliance = 11 ∷ 12 ∷ 2 ∷ []
 
--- the set holds the type of this row; "a request that names no set means 'all'"
+-- the set holds the type of this row; 02, K10: "A request that names no set now means 'std'."
 unfoldable pub rowHeld : Set → ℕ → Bool
 rowHeld All row = ltb row rows
 rowHeld Std row = listed (getD types row 0) compliance
-rowHeld Unnamed row = ltb row rows
+rowHeld Unnamed row = listed (getD types row 0) compliance

@@ -2,6 +2,7 @@
 ghost use mathlib.Core.Path.{_≡_};
 ghost use Rattle.base.specs.Lists.{listed};
 ghost use Rattle.codes.specs.Codes.{rowOf, levelIn, levelOf, causeListed, rowHeld};
+ghost use Rattle.codes.specs.declared.Set.the-variants.{Std};
 
 // How many rows the ledger has, one for each event type, and how many levels: NN, VN, VVN.
 pub const ROWS: usize = 7;
@@ -67,7 +68,7 @@ const CAUSES: [u8; 22] = [
     39,
 ];
 
-// A set of event types: all, the compliance figures, or none named.
+// A set of event types: all, the compliance figures, or none named, which means the compliance figures.
 pub enum Set {
     All,
     Std,
@@ -131,13 +132,20 @@ pub fn is_cause(cause: u8) -> bool
     (cause == 0) | in_table(CAUSES, cause)
 }
 
+// Whether a row is that of a compliance type: 11, 12 or 2.
+fn is_compliance(row: u8) -> bool
+    ensures { λ r. ⌜ r ≡ rowHeld Std row ⌝ }
+{
+    (row == 0) | (row == 1) | (row == 6)
+}
+
 // Whether a set holds the type of a row.
 pub fn holds_row(set: Set, row: u8) -> bool
     ensures { λ r. ⌜ r ≡ rowHeld set row ⌝ }
 {
     match set {
         Set::All => row < NO_ROW,
-        Set::Std => (row == 0) | (row == 1) | (row == 6),
-        Set::Unnamed => row < NO_ROW,
+        Set::Std => is_compliance(row),
+        Set::Unnamed => is_compliance(row),
     }
 }

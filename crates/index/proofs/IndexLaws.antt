@@ -16,7 +16,7 @@ use Rattle.ratio.proofs.Euclid.{lowest-same, lowest-lowest, lowest-unique}
 use Rattle.ratio.proofs.SameLaws.{same-transitive, product-same}
 use Rattle.codes.specs.Codes.{rowHeld}
 use Rattle.codes.specs.declared.Set.{Set}
-use Rattle.codes.specs.declared.Set.the-variants.{All, Unnamed}
+use Rattle.codes.specs.declared.Set.the-variants.{Std, Unnamed}
 use Rattle.ledger.specs.declared.TypeRow.{TypeRow}
 use Rattle.ledger.specs.declared.Ledger.{Ledger}
 use Rattle.ledger.specs.Sound.{soundLedger}
@@ -26,7 +26,7 @@ use Rattle.index.specs.declared.Index.{Index}
 use Rattle.index.specs.declared.Index.the-variants.{Saifi, Saidi, Caidi}
 use Rattle.index.specs.declared.Answer.the-variants.{Is, Refused}
 use Rattle.index.specs.Sums.{levelSum, totalOf}
-use Rattle.index.specs.Index.{formulaOf, weightOf, dividedBy, indexOf}
+use Rattle.index.specs.Index.{formulaOf, weightOf, dividedBy, indexOf, shownAnswer, shownIndex}
 use Rattle.index.specs.Answered.{Way, unsound, sheetless, divides-by-nobody, answered, Given, Exact}
 
 module _ (l : Ledger) (index : Index) (level : Level) (set : Set) where
@@ -140,14 +140,18 @@ caidi-times-saifi l level set a b p q =
           (both-exist (caidi .bottom) (saifi .bottom) (exact-b .exists) (exact-a .exists)),
     )
 
--- a request that names no set means 'all': of the sums, and of each index
-pub sums-unnamed : (rs : List TypeRow) (level : Level) → totalOf rs level Unnamed ≡ totalOf rs level All
+-- a request that names no set means 'std': of the sums, and of each index
+pub sums-unnamed : (rs : List TypeRow) (level : Level) → totalOf rs level Unnamed ≡ totalOf rs level Std
 unfolding levelSum rowHeld
 sums-unnamed rs NN = refl
 sums-unnamed rs VN = refl
 sums-unnamed rs VVN = refl
 sums-unnamed rs Network = refl
 
-pub unnamed-means-all : (l : Ledger) (index : Index) (level : Level) → indexOf l index level Unnamed ≡ indexOf l index level All
+pub unnamed-means-std : (l : Ledger) (index : Index) (level : Level) → indexOf l index level Unnamed ≡ indexOf l index level Std
 unfolding indexOf
-unnamed-means-all l index level = rw (sums-unnamed (l .rows) level)
+unnamed-means-std l index level = rw (sums-unnamed (l .rows) level)
+
+-- and of each decimal
+pub shown-unnamed : (l : Ledger) (index : Index) (level : Level) (digits : ℕ) → shownIndex l index level Unnamed digits ≡ shownIndex l index level Std digits
+shown-unnamed l index level digits = ap (λ a. shownAnswer a digits) (unnamed-means-std l index level)

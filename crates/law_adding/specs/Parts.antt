@@ -47,7 +47,7 @@ columnOf Network = 3
 abbrev pub typesIn : Set → List ℕ
 typesIn All = types
 typesIn Std = compliance
-typesIn Unnamed = types
+typesIn Unnamed = compliance
 
 abbrev pub rest : List ℕ
 rest = keep (λ (typ : ℕ). not (listed typ compliance)) types

@@ -32,7 +32,7 @@ levelWord Network = 83 ∷ 89 ∷ 83 ∷ []
 abbrev pub setWord : Set → List ℕ
 setWord All = 97 ∷ 108 ∷ 108 ∷ []
 setWord Std = 115 ∷ 116 ∷ 100 ∷ []
-setWord Unnamed = 97 ∷ 108 ∷ 108 ∷ []
+setWord Unnamed = 115 ∷ 116 ∷ 100 ∷ []
 
 -- " SAIFI"
 abbrev pub indexText : Ledger → Index → Level → Set → List ℕ

@@ -42,7 +42,7 @@ fn with_set(t: Text, set: Set) -> Text
     match set {
         Set::All => t.with_words(b"all"),
         Set::Std => t.with_words(b"std"),
-        Set::Unnamed => t.with_words(b"all"),
+        Set::Unnamed => t.with_words(b"std"),
     }
 }
 

@@ -1,4 +1,4 @@
--- Each set's word is the byte string of its arm; a set without a name is all. Assumes nothing.
+-- Each set's word is the byte string of its arm; no set named is std. Assumes nothing.
 use borrow.Author.Needs.{needs}
 use Rattle.report.proofs.with_set.Statement.{statement}
 use Rattle.report.proofs.with_set.Tie as tie
