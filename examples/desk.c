@@ -1,4 +1,4 @@
-/* A day at the outage desk, from C: a year sheet, two outages that are opened, stepped and closed, and the year's indices.
+/* A day at the outage desk, from C: a year sheet, three outages that are opened, stepped and closed, and the year's indices.
  *
  *   cc -I include examples/desk.c target/staticlib/libtemelyak.a -o desk && ./desk
  *
@@ -85,27 +85,26 @@ static uint32_t close_outage(unsigned number, unsigned steps)
 
 /* ---- figures */
 
-static void print_index(const char *name, uint32_t index, uint32_t level)
+static void print_index(const char *name, uint32_t index, uint32_t level, uint32_t set)
 {
     temelyak_fraction exact;
     temelyak_decimal_parts rounded;
     uint64_t *words = temelyak_words(&ledger);
 
-    if (temelyak_index(TEMELYAK_HEADER, words, TEMELYAK_LEDGER_WORDS, index, level, TEMELYAK_SET_ALL, temelyak_words(&exact), 2) != TEMELYAK_ACCEPTED
-        || temelyak_decimal(TEMELYAK_HEADER, words, TEMELYAK_LEDGER_WORDS, index, level, TEMELYAK_SET_ALL, 2, temelyak_words(&rounded), 2)
-               != TEMELYAK_ACCEPTED) {
+    if (temelyak_index(TEMELYAK_HEADER, words, TEMELYAK_LEDGER_WORDS, index, level, set, temelyak_words(&exact), 2) != TEMELYAK_ACCEPTED
+        || temelyak_decimal(TEMELYAK_HEADER, words, TEMELYAK_LEDGER_WORDS, index, level, set, 2, temelyak_words(&rounded), 2) != TEMELYAK_ACCEPTED) {
         printf("  %s -", name);
         return;
     }
     printf("  %s %" PRIu64 "/%" PRIu64 " = %" PRIu64 ".%02" PRIu64, name, exact.top, exact.bottom, rounded.whole, rounded.digits);
 }
 
-static void print_level(const char *name, uint32_t level)
+static void print_level(const char *name, uint32_t level, uint32_t set)
 {
     printf("%s", name);
-    print_index("SAIFI", TEMELYAK_SAIFI, level);
-    print_index("SAIDI", TEMELYAK_SAIDI, level);
-    print_index("CAIDI", TEMELYAK_CAIDI, level);
+    print_index("SAIFI", TEMELYAK_SAIFI, level, set);
+    print_index("SAIDI", TEMELYAK_SAIDI, level, set);
+    print_index("CAIDI", TEMELYAK_CAIDI, level, set);
     printf("\n");
 }
 
@@ -121,7 +120,8 @@ int main(void)
 {
     say("year sheet 2009", year_sheet(2009, 1000, 10, 1));
 
-    /* outage 101: a fault (type 11) on VN (voltage 5) at minute 600; outage 102: planned (type 2) on NN (voltage 1) at minute 620 */
+    /* outage 101: a fault (type 11) on VN (voltage 5) at minute 600; outage 102: planned (type 2) on NN (voltage 1) at minute 620; outage 103: no supply
+     * from the transmission network (type 13, which the compliance figures leave out) on VVN (voltage 7) at minute 700 */
     say("open 101", open_outage(101, 11, 5, 24, 600));
     say("open 102", open_outage(102, 2, 1, 0, 620));
     say("step 1 of 101", step(101, 1, 630, 800, 8, 0));
@@ -130,11 +130,20 @@ int main(void)
     say("close 101", close_outage(101, 2));
     say("step 3 of 101, late", step(101, 3, 665, 10, 0, 0));
     say("close 102", close_outage(102, 1));
+    say("open 103", open_outage(103, 13, 7, 0, 700));
+    say("step 1 of 103", step(103, 1, 705, 1000, 10, 1));
+    say("close 103", close_outage(103, 1));
 
     printf("events %" PRIu64 ", short %" PRIu64 "\n", ledger.events, ledger.short_events);
-    print_level("NN", TEMELYAK_NN);
-    print_level("VN", TEMELYAK_VN);
-    print_level("VVN", TEMELYAK_VVN);
-    print_level("network", TEMELYAK_NETWORK);
+    print_level("NN, all", TEMELYAK_NN, TEMELYAK_SET_ALL);
+    print_level("VN, all", TEMELYAK_VN, TEMELYAK_SET_ALL);
+    print_level("VVN, all", TEMELYAK_VVN, TEMELYAK_SET_ALL);
+    print_level("network, all", TEMELYAK_NETWORK, TEMELYAK_SET_ALL);
+    print_level("NN, std", TEMELYAK_NN, TEMELYAK_SET_STD);
+    print_level("VN, std", TEMELYAK_VN, TEMELYAK_SET_STD);
+    print_level("VVN, std", TEMELYAK_VVN, TEMELYAK_SET_STD);
+    print_level("network, std", TEMELYAK_NETWORK, TEMELYAK_SET_STD);
+    /* a request that names no set means std */
+    print_level("network, no set named", TEMELYAK_NETWORK, TEMELYAK_SET_UNNAMED);
     return 0;
 }

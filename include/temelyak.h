@@ -18,8 +18,8 @@
 extern "C" {
 #endif
 
-/* The version of this header. It changes with every layout. */
-#define TEMELYAK_VERSION 1u
+/* The version of this header. It changes with every layout and with what a code means. */
+#define TEMELYAK_VERSION 2u
 
 /* ---- limits */
 
@@ -160,7 +160,7 @@ TEMELYAK_ASSERT(read_broken, offsetof(temelyak_read, broken) == 8);
 enum { TEMELYAK_SAIFI = 1, TEMELYAK_SAIDI = 2, TEMELYAK_CAIDI = 3 };
 /* Of which level, or of the whole network. */
 enum { TEMELYAK_NN = 1, TEMELYAK_VN = 2, TEMELYAK_VVN = 3, TEMELYAK_NETWORK = 4 };
-/* Over which event types: no set named (which means all), all, or the compliance set 11, 12 and 2. */
+/* Over which event types: no set named, which means the compliance set; all; or the compliance set (std): 11, 12 and 2. */
 enum { TEMELYAK_SET_UNNAMED = 0, TEMELYAK_SET_ALL = 1, TEMELYAK_SET_STD = 2 };
 
 /* ---- answers */

@@ -1,6 +1,7 @@
 /* Sizes, offsets and constants of temelyak.h against the library's own: what it says it was built with, a slot and a ledger that it wrote, read
    field by field, and figures asked for by code. Compiled as C and as C++. With PACKED it is a caller for whom structs lie otherwise, under #pragma pack(1):
-   temelyak.h does not compile there, and without its asserts (outside/run takes them out) every call answers 254 and leaves what was lent. */
+   temelyak.h does not compile there, and without its asserts (outside/run takes them out) every call answers 254 and leaves what was lent. With OLDER it is a
+   caller of the version before, with this one's sizes: the same. */
 #include <inttypes.h>
 #include <stdio.h>
 #include <stdlib.h>
@@ -14,6 +15,12 @@
 #pragma pack()
 #endif
 
+#ifdef OLDER
+enum { OLDER_VERSION = TEMELYAK_VERSION - 1u };
+#undef TEMELYAK_VERSION
+#define TEMELYAK_VERSION OLDER_VERSION
+#endif
+
 static unsigned facts;
 
 static void same(const char *name, uint64_t is, uint64_t must) {
@@ -23,7 +30,7 @@ static void same(const char *name, uint64_t is, uint64_t must) {
     exit(1);
 }
 
-#ifdef PACKED
+#if defined PACKED || defined OLDER
 
 /* What is lent to a call, with room behind the desk for slots of the library's size. */
 static struct lent {
@@ -46,7 +53,9 @@ static const uint8_t open_message[13] = {13, 0, 16, 0, 1, 0, 11, 7, 0, 0, 0, 0, 
 int main(void) {
     uint64_t *words = temelyak_words(&lent.ledger);
     uint64_t *out = temelyak_words(&lent.out);
+#ifdef PACKED
     same("bytes of a slot under #pragma pack(1)", sizeof(temelyak_slot), 62);
+#endif
     refused("empty", temelyak_empty(TEMELYAK_HEADER, words, TEMELYAK_LEDGER_WORDS));
     refused("take", temelyak_take(TEMELYAK_HEADER, words, TEMELYAK_LEDGER_WORDS, lent.map, sizeof lent.map, sheet_record, sizeof sheet_record));
     refused("take_book", temelyak_take_book(TEMELYAK_HEADER, words, TEMELYAK_LEDGER_WORDS, lent.map, sizeof lent.map, sheet_record, sizeof sheet_record, out, 2));
@@ -58,7 +67,7 @@ int main(void) {
                                     sizeof open_message));
     refused("index", temelyak_index(TEMELYAK_HEADER, words, TEMELYAK_LEDGER_WORDS, TEMELYAK_SAIFI, TEMELYAK_NN, TEMELYAK_SET_ALL, out, 2));
     refused("decimal", temelyak_decimal(TEMELYAK_HEADER, words, TEMELYAK_LEDGER_WORDS, TEMELYAK_SAIFI, TEMELYAK_NN, TEMELYAK_SET_ALL, 2, out, 2));
-    printf("layout under #pragma pack(1): %u facts the same\n", facts);
+    printf("layout of a caller that is refused: %u facts the same\n", facts);
     return 0;
 }
 
@@ -268,7 +277,7 @@ static void codes(void) {
                     for (unsigned row = 0; row < TEMELYAK_ROWS; row++) {
                         if (l != 3 && h != l) continue;
                         if (row == 0) people += ledger.totals[h];
-                        if (s == 2 && row >= 2 && row <= 5) continue;
+                        if (s != 1 && row >= 2 && row <= 5) continue;
                         customers += ledger.cells[row][h].customers;
                         halves += ledger.cells[row][h].half_minutes;
                     }

@@ -25,7 +25,7 @@ const ROW: usize = LEVELS * 2;
 pub const WORDS: usize = FIRST + ROWS * ROW;
 
 // The version of the header, and the header word: it, so many words a ledger, 72 bytes a slot.
-pub const VERSION: u64 = 1;
+pub const VERSION: u64 = 2;
 
 const HEADER: u64 = VERSION * 4294967296 + WORDS as u64 * 65536 + 72;
 

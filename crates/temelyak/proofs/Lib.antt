@@ -1,5 +1,6 @@
 pub mod NoneLaws
 pub mod CallLaws
+pub mod SetLaws
 pub mod RefusedSame
 pub mod GoesOn
 pub mod OneOutcome
