@@ -34,8 +34,8 @@ fn with_level(t: Text, level: Level) -> Text {
 
 fn with_set(t: Text, set: Set) -> Text {
     match set {
-        Set::All | Set::Unnamed => t.with_words(b" all"),
-        Set::Std => t.with_words(b" std"),
+        Set::All => t.with_words(b" all"),
+        Set::Std | Set::Unnamed => t.with_words(b" std"),
     }
 }
 
