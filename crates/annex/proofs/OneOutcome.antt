@@ -14,20 +14,20 @@ use Rattle.annex.proofs.Course.with.Reads as with
 use Rattle.annex.proofs.Simple.figures.Kinds as figures-kinds
 use Rattle.annex.proofs.Simple.figures.Reads as figures
 
-pub minutes-in-one : OneOutcome minutes-in-kinds.ps minutes-in-kinds.r minutes-in.Post
-minutes-in-one κs a x y v w p q = (alike p q, refl)
+pub minutes_in_one : OneOutcome minutes-in-kinds.ps minutes-in-kinds.r minutes-in.Post
+minutes_in_one κs a x y v w p q = (alike p q, refl)
 
-pub is-short-one : OneOutcome is-short-kinds.ps is-short-kinds.r is-short.Post
-is-short-one κs a x y v w p q = (alike p q, refl)
+pub is_short_one : OneOutcome is-short-kinds.ps is-short-kinds.r is-short.Post
+is_short_one κs a x y v w p q = (alike p q, refl)
 
-pub none-one : OneOutcome none-kinds.ps none-kinds.r none.Post
-none-one κs a x y v w p q = (alike p q, refl)
+pub none_one : OneOutcome none-kinds.ps none-kinds.r none.Post
+none_one κs a x y v w p q = (alike p q, refl)
 
-pub begin-one : OneOutcome begin-kinds.ps begin-kinds.r begin.Post
-begin-one κs a x y v w p q = (alike p q, refl)
+pub begin_one : OneOutcome begin-kinds.ps begin-kinds.r begin.Post
+begin_one κs a x y v w p q = (alike p q, refl)
 
-pub with-one : OneOutcome with-kinds.ps with-kinds.r with.Post
-with-one κs a x y v w p q = (alike p q, refl)
+pub with_one : OneOutcome with-kinds.ps with-kinds.r with.Post
+with_one κs a x y v w p q = (alike p q, refl)
 
-pub figures-one : OneOutcome figures-kinds.ps figures-kinds.r figures.Post
-figures-one κs a x y v w p q = (alike p q, refl)
+pub figures_one : OneOutcome figures-kinds.ps figures-kinds.r figures.Post
+figures_one κs a x y v w p q = (alike p q, refl)

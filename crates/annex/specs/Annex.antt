@@ -4,9 +4,9 @@ use Rattle.base.specs.Lists.{largest}
 use Rattle.annex.specs.declared.Simple.{Simple}
 use Rattle.annex.specs.declared.Step.{Step}
 use Rattle.annex.specs.declared.Figures.{Figures}
-use Rattle.annex.specs.Times.{isShort}
-use Rattle.annex.specs.Simple.{simpleFigures}
-use Rattle.annex.specs.Stepped.{lastTime, steppedFigures}
+use Rattle.annex.specs.Times.{is_short}
+use Rattle.annex.specs.Simple.{simple_figures}
+use Rattle.annex.specs.Stepped.{last_time, stepped_figures}
 
 -- an event, as either record tells it
 pub data Event : Type 0 where
@@ -14,8 +14,8 @@ pub data Event : Type 0 where
   stepped : ℕ → List Step → Event
 
 -- the count of a level in each step
-abbrev pub countsOf : ℕ → List Step → List ℕ
-countsOf h ss = map (λ (s : Step). get_or s.counts h 0) ss
+abbrev pub counts_of : ℕ → List Step → List ℕ
+counts_of h ss = map (λ (s : Step). get_or s.counts h 0) ss
 
 -- Σ n_ih · Δt_ih, where Δt_ih is the time from the step before to this one
 abbrev pub weighed : ℕ → ℕ → List Step → ℕ
@@ -25,7 +25,7 @@ weighed h before (s ∷ ss) = get_or s.counts h 0 * (s.time - before) + weighed 
 -- n_jh: the customers of level h that event j interrupts
 unfoldable pub njh : ℕ → Event → ℕ
 njh h (simple e) = get_or e.n1 h 0
-njh h (stepped t0 ss) = largest (countsOf h ss)
+njh h (stepped t0 ss) = largest (counts_of h ss)
 
 -- 2 · n_jh · t_jh, in which the annex's half does not appear
 unfoldable pub njhtjh2 : ℕ → Event → ℕ
@@ -47,12 +47,12 @@ start_of (stepped t0 ss) = t0
 
 abbrev pub end_of : Event → ℕ
 end_of (simple e) = e.t3
-end_of (stepped t0 ss) = lastTime t0 ss
+end_of (stepped t0 ss) = last_time t0 ss
 
-abbrev pub shortEvent : Event → Bool
-shortEvent e = isShort (start_of e) (end_of e)
+abbrev pub short_event : Event → Bool
+short_event e = is_short (start_of e) (end_of e)
 
 -- the figures that code works out
-abbrev pub figuresOf : Event → Figures
-figuresOf (simple e) = simpleFigures e
-figuresOf (stepped t0 ss) = steppedFigures t0 ss
+abbrev pub figures_of : Event → Figures
+figures_of (simple e) = simple_figures e
+figures_of (stepped t0 ss) = stepped_figures t0 ss

@@ -7,41 +7,41 @@ use Rattle.annex.specs.declared.Figures.{Figures}
 abbrev pub customers : ℕ → Customers
 customers n = record { 0 = n }
 
-abbrev pub halfMinutes : ℕ → HalfMinutes
-halfMinutes h = record { 0 = h }
+abbrev pub half_minutes : ℕ → HalfMinutes
+half_minutes h = record { 0 = h }
 
 abbrev pub nothing : Figures
 nothing =
     record {
       customers = customers 0 ∷ customers 0 ∷ customers 0 ∷ [];
-      halves = halfMinutes 0 ∷ halfMinutes 0 ∷ halfMinutes 0 ∷ [];
+      halves = half_minutes 0 ∷ half_minutes 0 ∷ half_minutes 0 ∷ [];
     }
 
 -- the figures of a level
-abbrev pub customersAt : Figures → ℕ → ℕ
-customersAt f level = (get_or f.customers level (customers 0)).0
+abbrev pub customers_at : Figures → ℕ → ℕ
+customers_at f level = (get_or f.customers level (customers 0)).0
 
-abbrev pub halvesAt : Figures → ℕ → ℕ
-halvesAt f level = (get_or f.halves level (halfMinutes 0)).0
+abbrev pub halves_at : Figures → ℕ → ℕ
+halves_at f level = (get_or f.halves level (half_minutes 0)).0
 
 -- "the customers are the largest count of any step"
-abbrev pub largerOf : Customers → ℕ → Customers
-largerOf c n = customers (max c.0 n)
+abbrev pub larger_of : Customers → ℕ → Customers
+larger_of c n = customers (max c.0 n)
 
 -- "twice the customer-minutes are twice the sum of count times duration"
-abbrev pub longerOf : HalfMinutes → ℕ → ℕ → HalfMinutes
-longerOf h n minutes = halfMinutes (h.0 + 2 * n * minutes)
+abbrev pub longer_of : HalfMinutes → ℕ → ℕ → HalfMinutes
+longer_of h n minutes = half_minutes (h.0 + 2 * n * minutes)
 
 -- one step more, whose counts held for so many minutes
-unfoldable pub withStep : Figures → List ℕ → ℕ → Figures
-withStep f counts minutes =
+unfoldable pub with_step : Figures → List ℕ → ℕ → Figures
+with_step f counts minutes =
     record {
       customers =
-          largerOf (get_or f.customers 0 (customers 0)) (get_or counts 0 0) ∷
-          largerOf (get_or f.customers 1 (customers 0)) (get_or counts 1 0) ∷
-          largerOf (get_or f.customers 2 (customers 0)) (get_or counts 2 0) ∷ [];
+          larger_of (get_or f.customers 0 (customers 0)) (get_or counts 0 0) ∷
+          larger_of (get_or f.customers 1 (customers 0)) (get_or counts 1 0) ∷
+          larger_of (get_or f.customers 2 (customers 0)) (get_or counts 2 0) ∷ [];
       halves =
-          longerOf (get_or f.halves 0 (halfMinutes 0)) (get_or counts 0 0) minutes ∷
-          longerOf (get_or f.halves 1 (halfMinutes 0)) (get_or counts 1 0) minutes ∷
-          longerOf (get_or f.halves 2 (halfMinutes 0)) (get_or counts 2 0) minutes ∷ [];
+          longer_of (get_or f.halves 0 (half_minutes 0)) (get_or counts 0 0) minutes ∷
+          longer_of (get_or f.halves 1 (half_minutes 0)) (get_or counts 1 0) minutes ∷
+          longer_of (get_or f.halves 2 (half_minutes 0)) (get_or counts 2 0) minutes ∷ [];
     }

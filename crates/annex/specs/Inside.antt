@@ -4,8 +4,8 @@ use Rattle.codes.specs.Ranges.{latest}
 use Rattle.annex.specs.declared.Course.{Course}
 use Rattle.annex.specs.declared.Figures.{Figures}
 use Rattle.annex.specs.declared.Step.{Step}
-use Rattle.annex.specs.Figures.{halvesAt}
-use Rattle.annex.specs.Figure.{Figure, figureAt, most_of}
+use Rattle.annex.specs.Figures.{halves_at}
+use Rattle.annex.specs.Figure.{Figure, figure_at, most_of}
 
 -- three counts, each at most m
 pub record Few (m : ℕ) (n : List ℕ) : Type 0 where
@@ -15,15 +15,15 @@ pub record Few (m : ℕ) (n : List ℕ) : Type 0 where
 
 -- so few half minutes that a step more fits a 64-bit number
 pub record Room (f : Figures) : Type 0 where
-  pub nn : halvesAt f 0 ≤ 1000000000000000000
-  pub vn : halvesAt f 1 ≤ 1000000000000000000
-  pub vvn : halvesAt f 2 ≤ 1000000000000000000
+  pub nn : halves_at f 0 ≤ 1000000000000000000
+  pub vn : halves_at f 1 ≤ 1000000000000000000
+  pub vvn : halves_at f 2 ≤ 1000000000000000000
 
 -- half minutes that 32-bit counts can have come to by the last time
 pub record Timely (c : Course) : Type 0 where
-  pub nn : halvesAt c.figures 0 ≤ 8589934590 * c.last
-  pub vn : halvesAt c.figures 1 ≤ 8589934590 * c.last
-  pub vvn : halvesAt c.figures 2 ≤ 8589934590 * c.last
+  pub nn : halves_at c.figures 0 ≤ 8589934590 * c.last
+  pub vn : halves_at c.figures 1 ≤ 8589934590 * c.last
+  pub vvn : halves_at c.figures 2 ≤ 8589934590 * c.last
 
 -- a step that may follow: its time is in order, and there is room for it
 pub record Ready (c : Course) (s : Step) : Type 0 where
@@ -33,7 +33,7 @@ pub record Ready (c : Course) (s : Step) : Type 0 where
 
 -- figures that one event may add to a level
 abbrev pub Within : Figures → ℕ → Type 0
-Within f h = (x : Figure) → figureAt x f h ≤ most_of x
+Within f h = (x : Figure) → figure_at x f h ≤ most_of x
 
 -- steps whose times do not fall, from a time on, and end by 600,000
 abbrev pub Ordered : ℕ → List Step → Type 0

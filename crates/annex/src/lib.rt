@@ -1,11 +1,11 @@
 // What one event adds by the annex's formulas: customers and half customer-minutes for each level, the short events, and the year's length.
 ghost use Rattle.std.specs.Prelude.{◌≡◌, ◌+◌, ◌*◌, ◌≤◌, max};
 ghost use Rattle.codes.specs.Ranges.{latest};
-ghost use Rattle.annex.specs.Figures.{nothing, largerOf, longerOf, withStep};
+ghost use Rattle.annex.specs.Figures.{nothing, larger_of, longer_of, with_step};
 ghost use Rattle.annex.specs.Inside.{Room, Ready};
-ghost use Rattle.annex.specs.Simple.{halvesOf, simpleFigures, InOrder};
+ghost use Rattle.annex.specs.Simple.{halves_of, simple_figures, InOrder};
 ghost use Rattle.annex.specs.Stepped.{begun, coursed};
-ghost use Rattle.annex.specs.Times.{minutesIn, isShort};
+ghost use Rattle.annex.specs.Times.{minutes_in, is_short};
 
 use codes::LEVELS;
 
@@ -60,14 +60,14 @@ pub struct Simple {
 
 // The minutes of a year from 2000 to 2099.
 pub fn minutes_in(year: u16) -> u32
-    ensures { result ≡ minutesIn year }
+    ensures { result ≡ minutes_in year }
 {
     if year % 4 == 0 { 527040 } else { 525600 }
 }
 
 // Whether an event from one minute to another is short: 3 minutes or less.
 pub fn is_short(start: u32, end: u32) -> bool
-    ensures { result ≡ isShort start end }
+    ensures { result ≡ is_short start end }
 {
     if end < start {
         return true;
@@ -77,7 +77,7 @@ pub fn is_short(start: u32, end: u32) -> bool
 
 // The larger of two numbers of customers.
 fn larger(c: Customers, n: u32) -> Customers
-    ensures { result ≡ largerOf c n }
+    ensures { result ≡ larger_of c n }
 {
     let m = n as u64;
     if c.0 < m { Customers(m) } else { c }
@@ -94,7 +94,7 @@ fn weigh(n: u64, minutes: u32) -> u64
 // The half customer-minutes with those of one step more.
 fn longer(h: HalfMinutes, n: u32, minutes: u32) -> HalfMinutes
     requires { (h.0 ≤ 1000000000000000000) × (minutes ≤ latest) }
-    ensures { result ≡ longerOf h n minutes }
+    ensures { result ≡ longer_of h n minutes }
 {
     HalfMinutes(h.0 + weigh(2 * (n as u64), minutes))
 }
@@ -112,7 +112,7 @@ impl Figures {
     // The figures with a step whose counts held for so many minutes.
     fn with_step(self, counts: [u32; LEVELS], minutes: u32) -> Figures
         requires { Room self × (minutes ≤ latest) }
-        ensures { result ≡ withStep self counts minutes }
+        ensures { result ≡ with_step self counts minutes }
     {
         let c = self.customers;
         let h = self.halves;
@@ -160,7 +160,7 @@ impl Simple {
     // The half customer-minutes of one level: 2 n1 (T1-T0) + (n1+n2)(T2-T1) + 2 n2 (T3-T2).
     fn halves(self, n1: u32, n2: u32) -> HalfMinutes
         requires { InOrder self }
-        ensures { result ≡ halvesOf self n1 n2 }
+        ensures { result ≡ halves_of self n1 n2 }
     {
         let a = n1 as u64;
         let b = n2 as u64;
@@ -174,7 +174,7 @@ impl Simple {
     // What a simple event adds.
     pub fn figures(self) -> Figures
         requires { InOrder self }
-        ensures { result ≡ simpleFigures self }
+        ensures { result ≡ simple_figures self }
     {
         let a = self.n1;
         let b = self.n2;

@@ -7,7 +7,7 @@ use mathlib.Core.Bool.{Bool, true, false, cond, ◌||◌, or-true}
 use lib.Dec.{eqb, ltb→lt}
 use native.Mathlib.Omega.{arith}
 use borrow.Author.Tests.{eqb-true, eqb-false, eq-eqb, ne_eqb}
-use Rattle.base.specs.First.{Rule, first, ruleOf, NoRule, Clear, Foremost, Rising}
+use Rattle.base.specs.First.{Rule, first, rule_of, NoRule, Clear, Foremost, Rising}
 use Rattle.base.specs.Lists.{listed}
 
 one : (n : ℕ) (b : Bool) (rest k : ℕ) → k < n → cond b n rest ≡ 0 → (b ≡ false) × (rest ≡ 0)
@@ -61,32 +61,32 @@ module _ (n : ℕ) where
       go false a g ih = ap (λ t. cond t q.0 (first rs)) g.0 ∙ ih g.1
 
 -- of rules whose numbers rise from above 0: the answer is n exactly where n is foremost
-pub exactly-then : (n : ℕ) (rs : List Rule) → Rising 0 rs → (first rs ≡ n) ↔ Foremost n rs
-exactly-then n rs r = (exactly n 0 rs r, then n rs)
+pub exactly_then : (n : ℕ) (rs : List Rule) → Rising 0 rs → (first rs ≡ n) ↔ Foremost n rs
+exactly_then n rs r = (exactly n 0 rs r, then n rs)
 
 -- where no rule applies, none of any number does
 pub clear_at : (rs : List Rule) → Clear rs → NoRule rs
 clear_at [] c n = refl
 clear_at (r ∷ rs) c n = go (eqb r.0 n) (clear_at rs c.1 n)
   where
-    go : (t : Bool) → ruleOf n rs ≡ false → cond t r.1 (ruleOf n rs) ≡ false
+    go : (t : Bool) → rule_of n rs ≡ false → cond t r.1 (rule_of n rs) ≡ false
     go true e = c.0
     go false e = e
 
 -- rules that rise from a number on have none at or below it
-none_below : (k n : ℕ) (rs : List Rule) → Rising k rs → n ≤ k → ruleOf n rs ≡ false
+none_below : (k n : ℕ) (rs : List Rule) → Rising k rs → n ≤ k → rule_of n rs ≡ false
 none_below k n [] r l = refl
 none_below k n (q ∷ rs) r l =
     let above : k < q.0 = ltb→lt k q.0 r.0 in
-    ap (λ t. cond t q.1 (ruleOf n rs)) (ne_eqb q.0 n (λ e. omega arith)) ∙ none_below q.0 n rs r.1 (omega arith)
+    ap (λ t. cond t q.1 (rule_of n rs)) (ne_eqb q.0 n (λ e. omega arith)) ∙ none_below q.0 n rs r.1 (omega arith)
 
 -- where a number is answered, it applies, and none below it does
 module _ (n : ℕ) where
-  pub answered-rule : (rs : List Rule) → first rs ≡ n → (n ≡ 0 → ⊥) → (k : ℕ) → Rising k rs → ruleOf n rs ≡ true
-  answered-rule [] e z k r = absurd (z (sym e))
-  answered-rule (q ∷ rs) e z k r = go (λ f. answered-rule rs f z q.0 r.1) q.1 refl (eqb q.0 n) refl
+  pub answered_rule : (rs : List Rule) → first rs ≡ n → (n ≡ 0 → ⊥) → (k : ℕ) → Rising k rs → rule_of n rs ≡ true
+  answered_rule [] e z k r = absurd (z (sym e))
+  answered_rule (q ∷ rs) e z k r = go (λ f. answered_rule rs f z q.0 r.1) q.1 refl (eqb q.0 n) refl
     where
-      go : (first rs ≡ n → ruleOf n rs ≡ true) → (t : Bool) → q.1 ≡ t → (s : Bool) → eqb q.0 n ≡ s → cond s q.1 (ruleOf n rs) ≡ true
+      go : (first rs ≡ n → rule_of n rs ≡ true) → (t : Bool) → q.1 ≡ t → (s : Bool) → eqb q.0 n ≡ s → cond s q.1 (rule_of n rs) ≡ true
       go ih true b true a = b
       go ih true b false a = absurd (eqb-false q.0 n a (ap (λ t. cond t q.0 (first rs)) (sym b) ∙ e))
       go ih false b true a =
@@ -95,11 +95,11 @@ module _ (n : ℕ) where
           absurd (omega (arith, u, eqb-true q.0 n a))
       go ih false b false a = ih (ap (λ t. cond t q.0 (first rs)) (sym b) ∙ e)
 
-  pub passed-rule : (i : ℕ) → i < n → (rs : List Rule) → first rs ≡ n → (k : ℕ) → Rising k rs → ruleOf i rs ≡ false
-  passed-rule i l [] e k r = refl
-  passed-rule i l (q ∷ rs) e k r = go (λ f. passed-rule i l rs f q.0 r.1) q.1 refl (eqb q.0 i) refl
+  pub passed_rule : (i : ℕ) → i < n → (rs : List Rule) → first rs ≡ n → (k : ℕ) → Rising k rs → rule_of i rs ≡ false
+  passed_rule i l [] e k r = refl
+  passed_rule i l (q ∷ rs) e k r = go (λ f. passed_rule i l rs f q.0 r.1) q.1 refl (eqb q.0 i) refl
     where
-      go : (first rs ≡ n → ruleOf i rs ≡ false) → (t : Bool) → q.1 ≡ t → (s : Bool) → eqb q.0 i ≡ s → cond s q.1 (ruleOf i rs) ≡ false
+      go : (first rs ≡ n → rule_of i rs ≡ false) → (t : Bool) → q.1 ≡ t → (s : Bool) → eqb q.0 i ≡ s → cond s q.1 (rule_of i rs) ≡ false
       go ih true b true a =
           let m : q.0 ≡ n = ap (λ t. cond t q.0 (first rs)) (sym b) ∙ e in
           absurd (omega (arith, m, eqb-true q.0 i a))
@@ -110,9 +110,9 @@ module _ (n : ℕ) where
       go ih false b false a = ih (ap (λ t. cond t q.0 (first rs)) (sym b) ∙ e)
 
 -- the first number is 0 or a number of the list
-pub first-listed : (rs : List Rule) → (eqb (first rs) 0 || listed (first rs) (map (λ (r : Rule). r.0) rs)) ≡ true
-first-listed [] = refl
-first-listed (r ∷ rs) = go r.1 (first-listed rs)
+pub first_listed : (rs : List Rule) → (eqb (first rs) 0 || listed (first rs) (map (λ (r : Rule). r.0) rs)) ≡ true
+first_listed [] = refl
+first_listed (r ∷ rs) = go r.1 (first_listed rs)
   where
     numbers : List ℕ
     numbers = map (λ (r : Rule). r.0) rs

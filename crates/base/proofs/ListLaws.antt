@@ -17,14 +17,14 @@ use Rattle.base.proofs.TestLaws.{and_left, and_right, and_both}
 pub every_more : {A : Type 0} (f : A → Bool) (d : A) (i : ℕ) (ok : Bool) (xs : List A) → i < length xs → (ok && every f (drop i xs)) ≡ (ok && f (get_or xs i d) && every f (drop (i + 1) xs))
 every_more f d i ok xs h = rw (add-one, drop-cons xs i d) (sym (and_assoc ok (f (get_or xs i d)) (every f (drop (suc i) xs))))
 
-pub every-ends : {A : Type 0} (f : A → Bool) (i : ℕ) (ok : Bool) (xs : List A) → length xs ≤ i → (ok && every f (drop i xs)) ≡ ok
-every-ends f i ok xs h = rw (drop_of_length-le xs h) (and-true ok)
+pub every_ends : {A : Type 0} (f : A → Bool) (i : ℕ) (ok : Bool) (xs : List A) → length xs ≤ i → (ok && every f (drop i xs)) ≡ ok
+every_ends f i ok xs h = rw (drop_of_length-le xs h) (and-true ok)
 
 -- what holds of each holds at an index
-pub every-at : {A : Type 0} (f : A → Bool) (d : A) (xs : List A) → every f xs ≡ true → (i : ℕ) → i < length xs → f (get_or xs i d) ≡ true
-every-at f d [] e i h = absurd (not-suc-le-zero h)
-every-at f d (x ∷ xs) e zero h = and_left (f x) (every f xs) e
-every-at f d (x ∷ xs) e (suc i) h = every-at f d xs (and_right (f x) (every f xs) e) i (le_of_suc-le-suc h)
+pub every_at : {A : Type 0} (f : A → Bool) (d : A) (xs : List A) → every f xs ≡ true → (i : ℕ) → i < length xs → f (get_or xs i d) ≡ true
+every_at f d [] e i h = absurd (not-suc-le-zero h)
+every_at f d (x ∷ xs) e zero h = and_left (f x) (every f xs) e
+every_at f d (x ∷ xs) e (suc i) h = every_at f d xs (and_right (f x) (every f xs) e) i (le_of_suc-le-suc h)
 
 -- it holds of each after a store, where it holds of what is stored
 pub every_set : {A : Type 0} (f : A → Bool) (xs : List A) (i : ℕ) (a : A) → every f xs ≡ true → f a ≡ true → every f (set xs i a) ≡ true
@@ -33,33 +33,33 @@ every_set f (x ∷ xs) zero a e h = and_both (f a) (every f xs) h (and_right (f 
 every_set f (x ∷ xs) (suc i) a e h = and_both (f x) (every f (set xs i a)) (and_left (f x) (every f xs) e) (every_set f xs i a (and_right (f x) (every f xs) e) h)
 
 -- a test of every element, also of what is read past the end
-pub every-or-default : {A : Type 0} (f : A → Bool) (d : A) (xs : List A) → every f xs ≡ true → f d ≡ true → (i : ℕ) → f (get_or xs i d) ≡ true
-every-or-default f d [] e h i = h
-every-or-default f d (x ∷ xs) e h zero = and_left (f x) (every f xs) e
-every-or-default f d (x ∷ xs) e h (suc i) = every-or-default f d xs (and_right (f x) (every f xs) e) h i
+pub every_or_default : {A : Type 0} (f : A → Bool) (d : A) (xs : List A) → every f xs ≡ true → f d ≡ true → (i : ℕ) → f (get_or xs i d) ≡ true
+every_or_default f d [] e h i = h
+every_or_default f d (x ∷ xs) e h zero = and_left (f x) (every f xs) e
+every_or_default f d (x ∷ xs) e h (suc i) = every_or_default f d xs (and_right (f x) (every f xs) e) h i
 
 -- a weaker test passes too
-pub every-weaker : {A : Type 0} (f g : A → Bool) → ((x : A) → f x ≡ true → g x ≡ true) → (xs : List A) → every f xs ≡ true → every g xs ≡ true
-every-weaker f g h [] e = refl
-every-weaker f g h (x ∷ xs) e = and_both (g x) (every g xs) (h x (and_left (f x) (every f xs) e)) (every-weaker f g h xs (and_right (f x) (every f xs) e))
+pub every_weaker : {A : Type 0} (f g : A → Bool) → ((x : A) → f x ≡ true → g x ≡ true) → (xs : List A) → every f xs ≡ true → every g xs ≡ true
+every_weaker f g h [] e = refl
+every_weaker f g h (x ∷ xs) e = and_both (g x) (every g xs) (h x (and_left (f x) (every f xs) e)) (every_weaker f g h xs (and_right (f x) (every f xs) e))
 
 -- a lookup that has seen the first i entries, and goes on
 pub listed_more : (x i : ℕ) (hit : Bool) (t : List ℕ) → i < length t → (hit || listed x (drop i t)) ≡ (hit || eqb x (get_or t i 0) || listed x (drop (i + 1) t))
 listed_more x i hit t h = rw (add-one, drop-cons t i 0) (sym (or_assoc hit (eqb x (get_or t i 0)) (listed x (drop (suc i) t))))
 
-pub listed-ends : (x i : ℕ) (hit : Bool) (t : List ℕ) → length t ≤ i → (hit || listed x (drop i t)) ≡ hit
-listed-ends x i hit t h = rw (drop_of_length-le t h) (or-false hit)
+pub listed_ends : (x i : ℕ) (hit : Bool) (t : List ℕ) → length t ≤ i → (hit || listed x (drop i t)) ≡ hit
+listed_ends x i hit t h = rw (drop_of_length-le t h) (or-false hit)
 
 -- a lookup that stops at a hit: the entry at i has the number, or has another and the lookup goes on, or there is no entry left
 module _ (x i : ℕ) (t : List ℕ) where
   pub listed_here : i < length t → x ≡ get_or t i 0 → listed x (drop i t) ≡ true
   listed_here h e = listed_more x i false t h ∙ ap (λ b. b || listed x (drop (i + 1) t)) (eq-eqb x (get_or t i 0) e)
 
-  pub listed-past : i < length t → (x ≡ get_or t i 0 → ⊥) → listed x (drop i t) ≡ listed x (drop (i + 1) t)
-  listed-past h n = listed_more x i false t h ∙ ap (λ b. b || listed x (drop (i + 1) t)) (ne_eqb x (get_or t i 0) n)
+  pub listed_past : i < length t → (x ≡ get_or t i 0 → ⊥) → listed x (drop i t) ≡ listed x (drop (i + 1) t)
+  listed_past h n = listed_more x i false t h ∙ ap (λ b. b || listed x (drop (i + 1) t)) (ne_eqb x (get_or t i 0) n)
 
-  pub listed-none : length t ≤ i → listed x (drop i t) ≡ false
-  listed-none h = listed-ends x i false t h
+  pub listed_none : length t ≤ i → listed x (drop i t) ≡ false
+  listed_none h = listed_ends x i false t h
 
 -- what holds of each of two lists holds of each of the two put one after the other, and back
 module _ {A : Type 0} (P : A → Type 0) where
@@ -67,9 +67,9 @@ module _ {A : Type 0} (P : A → Type 0) where
   all_append [] ys a b = b
   all_append (x ∷ xs) ys a b = (a.0, all_append xs ys a.1 b)
 
-  pub all-front : (xs ys : List A) → All P (xs ++ ys) → All P xs
-  all-front [] ys a = tt
-  all-front (x ∷ xs) ys a = (a.0, all-front xs ys a.1)
+  pub all_front : (xs ys : List A) → All P (xs ++ ys) → All P xs
+  all_front [] ys a = tt
+  all_front (x ∷ xs) ys a = (a.0, all_front xs ys a.1)
 
   pub all_back : (xs ys : List A) → All P (xs ++ ys) → All P ys
   all_back [] ys a = a
@@ -77,7 +77,7 @@ module _ {A : Type 0} (P : A → Type 0) where
 
   -- so what holds of each of a list holds of each of its first elements, and of those after them
   pub all_take : (n : ℕ) (xs : List A) → All P xs → All P (take n xs)
-  all_take n xs a = all-front (take n xs) (drop n xs) (subst (All P) (sym (take-append-drop n xs)) a)
+  all_take n xs a = all_front (take n xs) (drop n xs) (subst (All P) (sym (take-append-drop n xs)) a)
 
   pub all_drop : (n : ℕ) (xs : List A) → All P xs → All P (drop n xs)
   all_drop n xs a = all_back (take n xs) (drop n xs) (subst (All P) (sym (take-append-drop n xs)) a)
@@ -118,9 +118,9 @@ any_append f (x ∷ xs) ys = ap (λ (t : Bool). f x || t) (any_append f xs ys) �
 -- ---- those that are kept
 
 -- what holds of each holds of those that are kept
-pub all-kept : {A : Type 0} (P : A → Type 0) (f : A → Bool) (xs : List A) → All P xs → All P (keep f xs)
-all-kept P f [] a = tt
-all-kept P f (x ∷ xs) a = go (f x) (all-kept P f xs a.1)
+pub all_kept : {A : Type 0} (P : A → Type 0) (f : A → Bool) (xs : List A) → All P xs → All P (keep f xs)
+all_kept P f [] a = tt
+all_kept P f (x ∷ xs) a = go (f x) (all_kept P f xs a.1)
   where
     go : (t : Bool) → All P (keep f xs) → All P (cond t (x ∷ keep f xs) (keep f xs))
     go true h = (a.0, h)
@@ -139,39 +139,39 @@ module _ {A : Type 0} (f : A → Bool) where
       go false h = h
 
   -- those that pass pass again
-  pub keep-again : (xs : List A) → keep f (keep f xs) ≡ keep f xs
-  keep-again [] = refl
-  keep-again (x ∷ xs) = go (f x) refl (keep-again xs)
+  pub keep_again : (xs : List A) → keep f (keep f xs) ≡ keep f xs
+  keep_again [] = refl
+  keep_again (x ∷ xs) = go (f x) refl (keep_again xs)
     where
       go : (t : Bool) → f x ≡ t → keep f (keep f xs) ≡ keep f xs → keep f (cond t (x ∷ keep f xs) (keep f xs)) ≡ cond t (x ∷ keep f xs) (keep f xs)
       go true e h = ap (λ (t : Bool). cond t (x ∷ keep f (keep f xs)) (keep f (keep f xs))) e ∙ ap (λ (zs : List A). x ∷ zs) h
       go false e h = h
 
 -- two tests that agree keep the same
-pub keep-alike : {A : Type 0} (f g : A → Bool) → ((x : A) → f x ≡ g x) → (xs : List A) → keep f xs ≡ keep g xs
-keep-alike f g e [] = refl
-keep-alike f g e (x ∷ xs) = λ i. cond (e x i) (x ∷ keep-alike f g e xs i) (keep-alike f g e xs i)
+pub keep_alike : {A : Type 0} (f g : A → Bool) → ((x : A) → f x ≡ g x) → (xs : List A) → keep f xs ≡ keep g xs
+keep_alike f g e [] = refl
+keep_alike f g e (x ∷ xs) = λ i. cond (e x i) (x ∷ keep_alike f g e xs i) (keep_alike f g e xs i)
 
 -- ---- bytes
 
 -- what is read of bytes is below 256, also past the end
-pub byte-at : (s : List ℕ) → Bytes s → (i : ℕ) → get_or s i 0 < 256
-byte-at [] b i = omega arith
-byte-at (x ∷ s) b zero = b.0
-byte-at (x ∷ s) b (suc i) = byte-at s b.1 i
+pub byte_at_lem : (s : List ℕ) → Bytes s → (i : ℕ) → get_or s i 0 < 256
+byte_at_lem [] b i = omega arith
+byte_at_lem (x ∷ s) b zero = b.0
+byte_at_lem (x ∷ s) b (suc i) = byte_at_lem s b.1 i
 
 -- by a test, as of bytes that are written out
-pub bytes-by-test : (s : List ℕ) → every (λ b. ltb b 256) s ≡ true → Bytes s
-bytes-by-test [] e = tt
-bytes-by-test (b ∷ s) e =
+pub bytes_by_test : (s : List ℕ) → every (λ b. ltb b 256) s ≡ true → Bytes s
+bytes_by_test [] e = tt
+bytes_by_test (b ∷ s) e =
     let f : ℕ → Bool = λ x. ltb x 256 in
-    (ltb-true b 256 (and_left (f b) (every f s) e), bytes-by-test s (and_right (f b) (every f s) e))
+    (ltb-true b 256 (and_left (f b) (every f s) e), bytes_by_test s (and_right (f b) (every f s) e))
 
-pub all-bytes-by-test : (ss : List (List ℕ)) → every (λ s. every (λ b. ltb b 256) s) ss ≡ true → All Bytes ss
-all-bytes-by-test [] e = tt
-all-bytes-by-test (s ∷ ss) e =
+pub all_bytes_by_test : (ss : List (List ℕ)) → every (λ s. every (λ b. ltb b 256) s) ss ≡ true → All Bytes ss
+all_bytes_by_test [] e = tt
+all_bytes_by_test (s ∷ ss) e =
     let f : List ℕ → Bool = λ x. every (λ b. ltb b 256) x in
-    (bytes-by-test s (and_left (f s) (every f ss) e), all-bytes-by-test ss (and_right (f s) (every f ss) e))
+    (bytes_by_test s (and_left (f s) (every f ss) e), all_bytes_by_test ss (and_right (f s) (every f ss) e))
 
 -- a list of three is its three elements
 pub three : {A : Type 0} (d : A) (xs : List A) → length xs ≡ 3 → get_or xs 0 d ∷ get_or xs 1 d ∷ get_or xs 2 d ∷ [] ≡ xs

@@ -40,17 +40,17 @@ pub ended : (v : ℕ) (t : List ℕ) (i : ℕ) → Come v t i → length t ≤ i
 ended v t i c over = omega (arith, c.0, c.1, over, ap (place v) (drop_of_length-le t over))
 
 -- the search passes at most the whole table, and a place of the table where it ends holds the number
-pub number-at-most : (v : ℕ) (t : List ℕ) → place v t ≤ length t
-number-at-most v [] = le_refl 0
-number-at-most v (w ∷ t) = go (eqb v w) (number-at-most v t)
+pub number_at_most : (v : ℕ) (t : List ℕ) → place v t ≤ length t
+number_at_most v [] = le_refl 0
+number_at_most v (w ∷ t) = go (eqb v w) (number_at_most v t)
   where
     go : (here : Bool) → place v t ≤ length t → cond here 0 (suc (place v t)) ≤ suc (length t)
     go true k = omega arith
     go false k = suc-le-suc k
 
-pub number-found : (v : ℕ) (t : List ℕ) → place v t < length t → get_or t (place v t) 0 ≡ v
-number-found v [] l = absurd (not-suc-le-zero l)
-number-found v (w ∷ t) l = go (eqb v w) refl l (number-found v t)
+pub number_found_lem : (v : ℕ) (t : List ℕ) → place v t < length t → get_or t (place v t) 0 ≡ v
+number_found_lem v [] l = absurd (not-suc-le-zero l)
+number_found_lem v (w ∷ t) l = go (eqb v w) refl l (number_found_lem v t)
   where
     go :
         (here : Bool) →

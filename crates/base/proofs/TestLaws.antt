@@ -28,14 +28,14 @@ pub or_right : (a b : Bool) → (a || b) ≡ false → b ≡ false
 or_right true b e = absurd (false≢true (sym e))
 or_right false b e = e
 
-pub or-both : (a b : Bool) → a ≡ false → b ≡ false → (a || b) ≡ false
-or-both true b e f = absurd (true≢false e)
-or-both false b e f = f
+pub or_both : (a b : Bool) → a ≡ false → b ≡ false → (a || b) ≡ false
+or_both true b e f = absurd (true≢false e)
+or_both false b e f = f
 
 -- one of two, where the other fails
-pub or-other : (a b : Bool) → a ≡ false → (a || b) ≡ true → b ≡ true
-or-other true b f e = absurd (true≢false f)
-or-other false b f e = e
+pub or_other : (a b : Bool) → a ≡ false → (a || b) ≡ true → b ≡ true
+or_other true b f e = absurd (true≢false f)
+or_other false b f e = e
 
 -- a test is one or the other
 pub data Tested (t : Bool) : Type 0 where

@@ -11,13 +11,13 @@ first [] = 0
 first (r ∷ rs) = cond r.1 r.0 (first rs)
 
 -- whether what a number stands for applies, among the rules
-abbrev pub ruleOf : ℕ → List Rule → Bool
-ruleOf n [] = false
-ruleOf n (r ∷ rs) = cond (eqb r.0 n) r.1 (ruleOf n rs)
+abbrev pub rule_of : ℕ → List Rule → Bool
+rule_of n [] = false
+rule_of n (r ∷ rs) = cond (eqb r.0 n) r.1 (rule_of n rs)
 
 -- no rule applies, of whatever number
 abbrev pub NoRule : List Rule → Type 0
-NoRule rs = (n : ℕ) → ruleOf n rs ≡ false
+NoRule rs = (n : ℕ) → rule_of n rs ≡ false
 
 -- the same, rule by rule
 abbrev pub Clear : List Rule → Type 0

@@ -1,8 +1,8 @@
 // Taking a whole book: a refused record is counted and passed over, and a broken length counts as one refusal and ends the reading.
 ghost use Rattle.std.specs.Prelude.{◌≡◌, true, length};
-ghost use Rattle.used_numbers.specs.Marks.{mapSize};
-ghost use Rattle.ledger.specs.Sound.{soundLedger};
-ghost use Rattle.book.specs.Book.{passOf, afterBook, read_of, mapRead};
+ghost use Rattle.used_numbers.specs.Marks.{map_size};
+ghost use Rattle.ledger.specs.Sound.{sound_ledger};
+ghost use Rattle.book.specs.Book.{pass_of, after_book, read_of, map_read};
 
 use ledger::Ledger;
 
@@ -29,8 +29,8 @@ pub struct Read {
 // The records of a book, one after the other. An accepted record keeps a sound ledger sound, so soundness is not looked at again; the cells are
 // written where they stand.
 pub fn take_records(ledger: Ledger, map: &mut [u8], book: &[u8]) -> Pass
-    requires { (soundLedger ledger ≡ true) × (length map.old ≡ mapSize) }
-    ensures { (result ≡ passOf ledger map.old book.now) × (map.new ≡ (afterBook ledger map.old book.now).map) }
+    requires { (sound_ledger ledger ≡ true) × (length map.old ≡ map_size) }
+    ensures { (result ≡ pass_of ledger map.old book.now) × (map.new ≡ (after_book ledger map.old book.now).map) }
 {
     let mut l = ledger;
     let mut refused: u64 = 0;
@@ -61,7 +61,7 @@ pub fn take_records(ledger: Ledger, map: &mut [u8], book: &[u8]) -> Pass
 
 // A whole book. Soundness is looked at once.
 pub fn take_book(ledger: Ledger, map: &mut [u8], book: &[u8]) -> Read
-    ensures { (result ≡ read_of ledger map.old book.now) × (map.new ≡ mapRead ledger map.old book.now) }
+    ensures { (result ≡ read_of ledger map.old book.now) × (map.new ≡ map_read ledger map.old book.now) }
 {
     if (map.len() != ledger::MAP) | !ledger.sound() {
         return Read {

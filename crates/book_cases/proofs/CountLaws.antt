@@ -1,39 +1,39 @@
 -- How an asking that counts goes on: how many records were answered before an offset, and what is still to be answered from there. Assumes nothing.
 use Rattle.std.proofs.Common.{◌≡◌, ℕ, ◌+◌, ◌-◌, ◌<◌, ◌≤◌, not, T, eqb, List, ◌∷◌, length, sym, refl, ap, ◌∙◌, subst, arith, T_not}
-use Rattle.wire.specs.Book.{whichAt, recordAt, after_at}
-use Rattle.wire.specs.Cut.{recordsOf, recordsFrom, stopFrom, endsBy}
+use Rattle.wire.specs.Book.{which_at, record_at, after_at}
+use Rattle.wire.specs.Cut.{records_of, records_from, stop_from, ends_by}
 use Rattle.wire.proofs.CutLaws.{records_is, passed, halted}
-use Rattle.reader.proofs.ReaderLaws.{same-reader}
+use Rattle.reader.proofs.ReaderLaws.{same_reader}
 
 module _ (book : List ℕ) where
   -- n records were answered before the offset, and what is still to be answered is what the book has, less those
   abbrev pub Come : ℕ → ℕ → Type 0
-  Come n at = (n + length (recordsFrom book at) ≡ length (recordsFrom book 0)) × (stopFrom book at ≡ stopFrom book 0) × (n ≤ at) × (at ≤ length book)
+  Come n at = (n + length (records_from book at) ≡ length (records_from book 0)) × (stop_from book at ≡ stop_from book 0) × (n ≤ at) × (at ≤ length book)
 
   -- before the first record none is counted
-  pub come-start : Come 0 0
-  come-start = (omega arith, refl, omega arith, omega arith)
+  pub come_start : Come 0 0
+  come_start = (omega arith, refl, omega arith, omega arith)
 
   -- a record that is answered is one more, and its end the next offset
-  pub come-on : (n at : ℕ) → Come n at → whichAt book at ≡ 0 → Come (n + 1) (after_at book at)
-  come-on n at c h =
+  pub come_on : (n at : ℕ) → Come n at → which_at book at ≡ 0 → Come (n + 1) (after_at book at)
+  come_on n at c h =
       let p = passed book at h in
-      let l : length (recordsFrom book at) ≡ length (recordAt book at ∷ recordsFrom book (after_at book at)) = ap length p.0 in
+      let l : length (records_from book at) ≡ length (record_at book at ∷ records_from book (after_at book at)) = ap length p.0 in
       (omega (arith, l, c.0), sym p.1 ∙ c.1, omega (arith, p.2, c.2), p.3)
 
   -- and fewer bytes are left behind it
-  pub come-nearer : (at : ℕ) → whichAt book at ≡ 0 → length book - after_at book at < length book - at
-  come-nearer at h = let p = passed book at h in omega (arith, p.2, p.3)
+  pub come_nearer : (at : ℕ) → which_at book at ≡ 0 → length book - after_at book at < length book - at
+  come_nearer at h = let p = passed book at h in omega (arith, p.2, p.3)
 
   -- where no record is answered, all are counted
-  pub come-end : (n at : ℕ) → Come n at → (whichAt book at ≡ 0 → ⊥)
-      → (n ≡ length (recordsOf book)) × (after_at book at ≡ stopFrom book 0) × (whichAt book at ≡ endsBy book)
-  come-end n at c h =
+  pub come_end : (n at : ℕ) → Come n at → (which_at book at ≡ 0 → ⊥)
+      → (n ≡ length (records_of book)) × (after_at book at ≡ stop_from book 0) × (which_at book at ≡ ends_by book)
+  come_end n at c h =
       let q = halted book at h in
-      let l : length (recordsFrom book at) ≡ 0 = ap length q.0 in
-      let m : length (recordsFrom book 0) ≡ length (recordsOf book) = ap length (records_is book) in
-      let e : at ≡ stopFrom book 0 = sym q.1 ∙ c.1 in
-      (omega (arith, l, m, c.0), (same-reader book at h).1 ∙ e, ap (whichAt book) e)
+      let l : length (records_from book at) ≡ 0 = ap length q.0 in
+      let m : length (records_from book 0) ≡ length (records_of book) = ap length (records_is book) in
+      let e : at ≡ stop_from book 0 = sym q.1 ∙ c.1 in
+      (omega (arith, l, m, c.0), (same_reader book at h).1 ∙ e, ap (which_at book) e)
 
 -- a number that the test finds other than 0 is not 0
 pub unsame : (a : ℕ) → T (not (eqb a 0)) → a ≡ 0 → ⊥

@@ -23,8 +23,8 @@
 // All but a RECORD are told by their first letter, and numbers are found whatever stands between them. What begins as no line or case does is printed
 // as such.
 ghost use Rattle.std.specs.Prelude.{◌≡◌, length};
-ghost use Rattle.wire.specs.Book.{whichAt, recordAt, after_at};
-ghost use Rattle.wire.specs.Cut.{recordsOf, stopFrom, endsBy};
+ghost use Rattle.wire.specs.Book.{which_at, record_at, after_at};
+ghost use Rattle.wire.specs.Cut.{records_of, stop_from, ends_by};
 
 use annex::{Customers, HalfMinutes};
 use book::Read;
@@ -364,7 +364,7 @@ struct Asked {
 
 // Asks a reader at an offset, and then the reader that was answered.
 fn first_from(book: &[u8], at: usize) -> Asked
-    ensures { (result.which ≡ whichAt book.now at) × (result.size ≡ length (recordAt book.now at)) × (result.at ≡ after_at book.now at) × (result.again ≡ whichAt book.now (after_at book.now at)) }
+    ensures { (result.which ≡ which_at book.now at) × (result.size ≡ length (record_at book.now at)) × (result.at ≡ after_at book.now at) × (result.again ≡ which_at book.now (after_at book.now at)) }
 {
     let a = Reader::from(book, at).next();
     let b = a.reader.next();
@@ -402,7 +402,7 @@ struct Counted {
 
 // Asks a book's reader until it answers no record.
 fn count_records(book: &[u8]) -> Counted
-    ensures { (result.count ≡ length (recordsOf book.now)) × (result.at ≡ stopFrom book.now 0) × (result.which ≡ endsBy book.now) }
+    ensures { (result.count ≡ length (records_of book.now)) × (result.at ≡ stop_from book.now 0) × (result.which ≡ ends_by book.now) }
 {
     let mut n: usize = 0;
     let mut a = Reader::new(book).next();

@@ -2,7 +2,7 @@
 use Rattle.std.specs.Prelude.{ℕ, List}
 use Rattle.records.specs.Calls.{Taker}
 use Rattle.book_pieces.specs.declared.Feed.{Feed}
-use Rattle.book_pieces.specs.Feed.{fedAnswer, fedOf, mapFed, bufferFed}
+use Rattle.book_pieces.specs.Feed.{fed_answer, fed_of, map_fed, buffer_fed}
 
 pub record Lent : Type 0 where
   pub feed : Feed
@@ -12,8 +12,8 @@ abbrev pub taker : Taker Lent
 taker =
     record {
       holds = λ x. x.feed.held;
-      answer = λ x c. fedAnswer x.feed x.map c.buffer c.filled;
+      answer = λ x c. fed_answer x.feed x.map c.buffer c.filled;
       next = λ x c.
-          record { feed = (fedOf x.feed x.map c.buffer c.filled).feed; map = mapFed x.feed x.map c.buffer c.filled };
-      left = λ x c. bufferFed x.feed x.map c.buffer c.filled;
+          record { feed = (fed_of x.feed x.map c.buffer c.filled).feed; map = map_fed x.feed x.map c.buffer c.filled };
+      left = λ x c. buffer_fed x.feed x.map c.buffer c.filled;
     }

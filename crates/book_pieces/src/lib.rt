@@ -1,7 +1,7 @@
 // Taking a book in pieces as they arrive: the whole records of what has arrived are taken, and the bytes of a record that is not whole yet are kept at
 // the front of a lent buffer.
 ghost use Rattle.std.specs.Prelude.{◌≡◌};
-ghost use Rattle.book_pieces.specs.Feed.{begunOf, fedOf, mapFed, bufferFed, finishedOf};
+ghost use Rattle.book_pieces.specs.Feed.{begun_of, fed_of, map_fed, buffer_fed, finished_of};
 
 use book::Read;
 use ledger::Ledger;
@@ -25,7 +25,7 @@ pub struct Fed {
 
 // Begins a book: nothing is refused, and nothing held. A ledger that is not sound is refused with the first piece, and at the end.
 pub fn begin(ledger: Ledger) -> Feed
-    ensures { result ≡ begunOf ledger }
+    ensures { result ≡ begun_of ledger }
 {
     Feed {
         ledger,
@@ -38,7 +38,7 @@ pub fn begin(ledger: Ledger) -> Feed
 // Takes the whole records among the first `filled` bytes of the buffer. Nothing is changed where the answer is not 0: 1 for an unsound ledger or a map of
 // another size, `records::MANY_REFUSED` for a count of refused records above `records::MOST_REFUSED`, `records::MORE_TOLD` for a buffer that is shorter than `filled`.
 pub fn take_piece(f: Feed, map: &mut [u8], buffer: &mut [u8], filled: usize) -> Fed
-    ensures { (result ≡ fedOf f map.old buffer.old filled) × (map.new ≡ mapFed f map.old buffer.old filled) × (buffer.new ≡ bufferFed f map.old buffer.old filled) }
+    ensures { (result ≡ fed_of f map.old buffer.old filled) × (map.new ≡ map_fed f map.old buffer.old filled) × (buffer.new ≡ buffer_fed f map.old buffer.old filled) }
 {
     let l = f.ledger;
     let fit = (map.len() == ledger::MAP) & l.sound();
@@ -67,7 +67,7 @@ pub fn take_piece(f: Feed, map: &mut [u8], buffer: &mut [u8], filled: usize) -> 
 // The outcome once the input has ended: what is left over is a broken length, and counts as one refusal. 1 for an unsound ledger,
 // `records::MANY_REFUSED` for a count of refused records above `records::MOST_REFUSED`.
 pub fn finish(f: Feed) -> Read
-    ensures { result ≡ finishedOf f }
+    ensures { result ≡ finished_of f }
 {
     let l = f.ledger;
     let sound = l.sound();

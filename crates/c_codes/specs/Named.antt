@@ -8,17 +8,17 @@ use Rattle.index.specs.declared.Index.{Index}
 use Rattle.index.specs.declared.Index.TheVariants.{Saifi, Saidi, Caidi}
 
 -- 1 SAIFI, 2 SAIDI, 3 CAIDI
-abbrev pub indexNamed : ℕ → Index
-indexNamed code = cond (eqb code 1) Saifi (cond (eqb code 2) Saidi Caidi)
+abbrev pub index_named : ℕ → Index
+index_named code = cond (eqb code 1) Saifi (cond (eqb code 2) Saidi Caidi)
 
 -- 1 NN, 2 VN, 3 VVN, 4 the network
-abbrev pub levelNamed : ℕ → Level
-levelNamed code = cond (eqb code 1) NN (cond (eqb code 2) VN (cond (eqb code 3) VVN Network))
+abbrev pub level_named : ℕ → Level
+level_named code = cond (eqb code 1) NN (cond (eqb code 2) VN (cond (eqb code 3) VVN Network))
 
 -- 0 none named, 1 all, 2 std
-abbrev pub setNamed : ℕ → Set
-setNamed code = cond (eqb code 0) Unnamed (cond (eqb code 1) All Std)
+abbrev pub set_named : ℕ → Set
+set_named code = cond (eqb code 0) Unnamed (cond (eqb code 1) All Std)
 
 -- each code names one of these; any other code names none
-abbrev pub allNamed : ℕ → ℕ → ℕ → Bool
-allNamed index level set = leb 1 index && leb index 3 && (leb 1 level && leb level 4) && leb set 2
+abbrev pub all_named : ℕ → ℕ → ℕ → Bool
+all_named index level set = leb 1 index && leb index 3 && (leb 1 level && leb level 4) && leb set 2

@@ -2,7 +2,7 @@
 ghost use Rattle.std.specs.Prelude.{◌≡◌, min, get_or};
 ghost use Rattle.index.specs.Index.{exactly};
 ghost use Rattle.decimal.specs.Decimal.{decimally};
-ghost use Rattle.c_codes.specs.Named.{indexNamed, levelNamed, setNamed, allNamed};
+ghost use Rattle.c_codes.specs.Named.{index_named, level_named, set_named, all_named};
 
 use c_words::Pair;
 use codes::Set;
@@ -11,7 +11,7 @@ use index::{Answer, Index, Level};
 
 // The index that a code names.
 pub fn index_named(code: u32) -> Index
-    ensures { result ≡ indexNamed code }
+    ensures { result ≡ index_named code }
 {
     if code == 1 {
         return Index::Saifi;
@@ -24,7 +24,7 @@ pub fn index_named(code: u32) -> Index
 
 // The level that a code names.
 pub fn level_named(code: u32) -> Level
-    ensures { result ≡ levelNamed code }
+    ensures { result ≡ level_named code }
 {
     if code == 1 {
         return Level::NN;
@@ -40,7 +40,7 @@ pub fn level_named(code: u32) -> Level
 
 // The set that a code names.
 pub fn set_named(code: u32) -> Set
-    ensures { result ≡ setNamed code }
+    ensures { result ≡ set_named code }
 {
     if code == 0 {
         return Set::Unnamed;
@@ -53,7 +53,7 @@ pub fn set_named(code: u32) -> Set
 
 // Whether each code names one.
 pub fn all_named(index: u32, level: u32, set: u32) -> bool
-    ensures { result ≡ allNamed index level set }
+    ensures { result ≡ all_named index level set }
 {
     (1 <= index) & (index <= 3) & ((1 <= level) & (level <= 4)) & (set <= 2)
 }

@@ -15,15 +15,15 @@ use Rattle.c_words.proofs.put.Reads as put
 pub flag_one : OneOutcome flag-kinds.ps flag-kinds.r flag.Post
 flag_one κs a x y v w p q = (alike p q, refl)
 
-pub answer-by-one : OneOutcome answer-by-kinds.ps answer-by-kinds.r answer-by.Post
-answer-by-one κs a x y v w p q = (alike p q, refl)
+pub answer_by_one : OneOutcome answer-by-kinds.ps answer-by-kinds.r answer-by.Post
+answer_by_one κs a x y v w p q = (alike p q, refl)
 
-pub lent-ledger-one : OneOutcome lent-ledger-kinds.ps lent-ledger-kinds.r lent-ledger.Post
-lent-ledger-one κs a x y v w p q = (alike p q, refl)
+pub lent_ledger_one : OneOutcome lent-ledger-kinds.ps lent-ledger-kinds.r lent-ledger.Post
+lent_ledger_one κs a x y v w p q = (alike p q, refl)
 
 -- answer and words are decided
-pub settle-one : OneOutcome settle-kinds.ps settle-kinds.r settle.Post
-settle-one κs a x y v w p q = (alike p.0 q.0, λ i. (tt, (alike p.1 q.1 i, (tt, tt))))
+pub settle_one : OneOutcome settle-kinds.ps settle-kinds.r settle.Post
+settle_one κs a x y v w p q = (alike p.0 q.0, λ i. (tt, (alike p.1 q.1 i, (tt, tt))))
 
 -- answer and output are decided
 pub put_one : OneOutcome put-kinds.ps put-kinds.r put.Post

@@ -13,9 +13,9 @@ use native.Mathlib.Numerals.{add-one}
 use Rattle.base.proofs.TestLaws.{and_left, and_right}
 use Rattle.ledger.specs.declared.Cell.{Cell}
 use Rattle.ledger.specs.declared.TypeRow.{TypeRow}
-use Rattle.ledger.specs.Ledger.{noCell, no_row}
-use Rattle.c_words.specs.Words.{wordsFirst, rowWords, ledgerWords, word, wordsFit, Fit, cells_of, cellWords, rows_of, cells_in}
-use Rattle.c_words.specs.Inside.{putCell, putRow, row_at}
+use Rattle.ledger.specs.Ledger.{no_cell, no_row}
+use Rattle.c_words.specs.Words.{words_first, row_words, ledger_words, word, words_fit, Fit, cells_of, cell_words, rows_of, cells_in}
+use Rattle.c_words.specs.Inside.{put_cell, put_row, row_at}
 
 -- ---- reading: the rows read so far and those still in the words are all of them
 
@@ -26,10 +26,10 @@ module _ (ws : List ℕ) (at : ℕ) where
       let on : suc (at + n) ≡ at + (n + 1) = omega arith in
       drop-cons ws (at + n) 0 l ∙ ap (λ k. get_or ws (at + n) 0 ∷ drop k ws) on
 
-  six-words :
+  six_words :
       at + 5 < length ws →
-      drop at ws ≡ get_or ws at 0 ∷ get_or ws (at + 1) 0 ∷ get_or ws (at + 2) 0 ∷ get_or ws (at + 2 + 1) 0 ∷ get_or ws (at + 4) 0 ∷ get_or ws (at + 4 + 1) 0 ∷ drop (at + rowWords) ws
-  six-words l =
+      drop at ws ≡ get_or ws at 0 ∷ get_or ws (at + 1) 0 ∷ get_or ws (at + 2) 0 ∷ get_or ws (at + 2 + 1) 0 ∷ get_or ws (at + 4) 0 ∷ get_or ws (at + 4 + 1) 0 ∷ drop (at + row_words) ws
+  six_words l =
       let here : at + 0 ≡ at = omega arith in
       let third : at + 3 ≡ at + 2 + 1 = omega arith in
       let fifth : at + 5 ≡ at + 4 + 1 = omega arith in
@@ -42,36 +42,36 @@ module _ (ws : List ℕ) (at : ℕ) where
       (λ i. get_or ws at 0 ∷ get_or ws (at + 1) 0 ∷ get_or ws (at + 2) 0 ∷ get_or ws (at + 2 + 1) 0 ∷ get_or ws (at + 4) 0 ∷ word_next 5 (omega arith) i) ∙
       (λ i. get_or ws at 0 ∷ get_or ws (at + 1) 0 ∷ get_or ws (at + 2) 0 ∷ get_or ws (at + 2 + 1) 0 ∷ get_or ws (at + 4) 0 ∷ get_or ws (fifth i) 0 ∷ drop (at + 6) ws)
 
-  row_next : at + 5 < length ws → rows_of (cells_of (drop at ws)) ≡ row_at ws at ∷ rows_of (cells_of (drop (at + rowWords) ws))
-  row_next l = ap (λ us. rows_of (cells_of us)) (six-words l)
+  row_next : at + 5 < length ws → rows_of (cells_of (drop at ws)) ≡ row_at ws at ∷ rows_of (cells_of (drop (at + row_words) ws))
+  row_next l = ap (λ us. rows_of (cells_of us)) (six_words l)
 
 -- where the row after k others begins
-abbrev pub rowStart : ℕ → ℕ
-rowStart k = wordsFirst + rowWords * k
+abbrev pub row_start : ℕ → ℕ
+row_start k = words_first + row_words * k
 
-start-next : (k : ℕ) → rowStart (k + 1) ≡ rowStart k + rowWords
-start-next k = omega arith
+start_next : (k : ℕ) → row_start (k + 1) ≡ row_start k + row_words
+start_next k = omega arith
 
 -- it stays so with a row more read, and past the last row all of them are read
 pub read_more :
     (ws : List ℕ) (rs : List TypeRow) (k : ℕ) →
     k < length rs →
-    rowStart k + 5 < length ws →
-    take (k + 1) (set rs k (row_at ws (rowStart k))) ++ rows_of (cells_of (drop (rowStart (k + 1)) ws)) ≡ take k rs ++ rows_of (cells_of (drop (rowStart k) ws))
+    row_start k + 5 < length ws →
+    take (k + 1) (set rs k (row_at ws (row_start k))) ++ rows_of (cells_of (drop (row_start (k + 1)) ws)) ≡ take k rs ++ rows_of (cells_of (drop (row_start k) ws))
 read_more ws rs k h g =
-    (λ i. take (add-one k i) (set rs k (row_at ws (rowStart k))) ++ rows_of (cells_of (drop (start-next k i) ws))) ∙
-    ap (λ qs. qs ++ rows_of (cells_of (drop (rowStart k + rowWords) ws))) (take-suc-set rs k (row_at ws (rowStart k)) h) ∙
-    append_assoc (take k rs) (row_at ws (rowStart k) ∷ []) (rows_of (cells_of (drop (rowStart k + rowWords) ws))) ∙
-    ap (λ qs. take k rs ++ qs) (sym (row_next ws (rowStart k) g))
+    (λ i. take (add-one k i) (set rs k (row_at ws (row_start k))) ++ rows_of (cells_of (drop (start_next k i) ws))) ∙
+    ap (λ qs. qs ++ rows_of (cells_of (drop (row_start k + row_words) ws))) (take-suc-set rs k (row_at ws (row_start k)) h) ∙
+    append_assoc (take k rs) (row_at ws (row_start k) ∷ []) (rows_of (cells_of (drop (row_start k + row_words) ws))) ∙
+    ap (λ qs. take k rs ++ qs) (sym (row_next ws (row_start k) g))
 
-pub read-ends : (ws : List ℕ) (rs : List TypeRow) (k : ℕ) → length rs ≤ k → length ws ≤ rowStart k → take k rs ++ rows_of (cells_of (drop (rowStart k) ws)) ≡ rs
-read-ends ws rs k h g =
+pub read_ends : (ws : List ℕ) (rs : List TypeRow) (k : ℕ) → length rs ≤ k → length ws ≤ row_start k → take k rs ++ rows_of (cells_of (drop (row_start k) ws)) ≡ rs
+read_ends ws rs k h g =
     ap (λ us. take k rs ++ rows_of (cells_of us)) (drop_of_length-le ws g) ∙ append-nil (take k rs) ∙ take_all k rs h
 
 -- ---- writing: the words written so far and those still in the rows are all of them
 
-put-cell : (ws : List ℕ) (at : ℕ) (c : Cell) → at + 1 < length ws → take (at + 2) (putCell ws at c) ≡ take at ws ++ cellWords (c ∷ [])
-put-cell ws at c l =
+put_cell_lem : (ws : List ℕ) (at : ℕ) (c : Cell) → at + 1 < length ws → take (at + 2) (put_cell ws at c) ≡ take at ws ++ cell_words (c ∷ [])
+put_cell_lem ws at c l =
     let x = c.customers.0 in
     let y = c.halves.0 in
     let two : at + 2 ≡ suc (suc at) = omega arith in
@@ -81,46 +81,46 @@ put-cell ws at c l =
     append_assoc (take at ws) (x ∷ []) (y ∷ [])
 
 -- a store of a cell leaves as many words
-pub put-length : (ws : List ℕ) (at : ℕ) (c : Cell) → length (putCell ws at c) ≡ length ws
-put-length ws at c = simp length-set
+pub put_length : (ws : List ℕ) (at : ℕ) (c : Cell) → length (put_cell ws at c) ≡ length ws
+put_length ws at c = simp length-set
 
-put-row : (ws : List ℕ) (at : ℕ) (cs : List Cell) → at + 5 < length ws → take (at + rowWords) (putRow ws at cs) ≡ take at ws ++ cellWords (get_or cs 0 noCell ∷ get_or cs 1 noCell ∷ get_or cs 2 noCell ∷ [])
-put-row ws at cs l =
-    let a = get_or cs 0 noCell in
-    let b = get_or cs 1 noCell in
-    let c = get_or cs 2 noCell in
-    let one = putCell ws at a in
-    let two = putCell one (at + 2) b in
-    let l₁ : length one ≡ length ws = put-length ws at a in
-    let l₂ : length two ≡ length one = put-length one (at + 2) b in
+put_row_lem : (ws : List ℕ) (at : ℕ) (cs : List Cell) → at + 5 < length ws → take (at + row_words) (put_row ws at cs) ≡ take at ws ++ cell_words (get_or cs 0 no_cell ∷ get_or cs 1 no_cell ∷ get_or cs 2 no_cell ∷ [])
+put_row_lem ws at cs l =
+    let a = get_or cs 0 no_cell in
+    let b = get_or cs 1 no_cell in
+    let c = get_or cs 2 no_cell in
+    let one = put_cell ws at a in
+    let two = put_cell one (at + 2) b in
+    let l₁ : length one ≡ length ws = put_length ws at a in
+    let l₂ : length two ≡ length one = put_length one (at + 2) b in
     let four : at + 2 + 2 ≡ at + 4 = omega arith in
     let six : at + 4 + 2 ≡ at + 6 = omega arith in
-    ap (λ k. take k (putCell two (at + 4) c)) (sym six) ∙
-    put-cell two (at + 4) c (omega arith) ∙
-    ap (λ k. take k two ++ cellWords (c ∷ [])) (sym four) ∙
-    ap (λ us. us ++ cellWords (c ∷ [])) (put-cell one (at + 2) b (omega arith)) ∙
-    ap (λ us. (us ++ cellWords (b ∷ [])) ++ cellWords (c ∷ [])) (put-cell ws at a (omega arith)) ∙
-    append_assoc (take at ws ++ cellWords (a ∷ [])) (cellWords (b ∷ [])) (cellWords (c ∷ [])) ∙
-    append_assoc (take at ws) (cellWords (a ∷ [])) (cellWords (b ∷ c ∷ []))
+    ap (λ k. take k (put_cell two (at + 4) c)) (sym six) ∙
+    put_cell_lem two (at + 4) c (omega arith) ∙
+    ap (λ k. take k two ++ cell_words (c ∷ [])) (sym four) ∙
+    ap (λ us. us ++ cell_words (c ∷ [])) (put_cell_lem one (at + 2) b (omega arith)) ∙
+    ap (λ us. (us ++ cell_words (b ∷ [])) ++ cell_words (c ∷ [])) (put_cell_lem ws at a (omega arith)) ∙
+    append_assoc (take at ws ++ cell_words (a ∷ [])) (cell_words (b ∷ [])) (cell_words (c ∷ [])) ∙
+    append_assoc (take at ws) (cell_words (a ∷ [])) (cell_words (b ∷ c ∷ []))
 
 -- it stays so with a row more written, and past the last row all of them are written
-pub write-more :
+pub write_more :
     (ws : List ℕ) (rs : List TypeRow) (k : ℕ) →
     k < length rs →
-    rowStart k + 5 < length ws →
-    take (rowStart (k + 1)) (putRow ws (rowStart k) (get_or rs k no_row).levels) ++ cellWords (cells_in (drop (k + 1) rs)) ≡
-    take (rowStart k) ws ++ cellWords (cells_in (drop k rs))
-write-more ws rs k h g =
+    row_start k + 5 < length ws →
+    take (row_start (k + 1)) (put_row ws (row_start k) (get_or rs k no_row).levels) ++ cell_words (cells_in (drop (k + 1) rs)) ≡
+    take (row_start k) ws ++ cell_words (cells_in (drop k rs))
+write_more ws rs k h g =
     let r = get_or rs k no_row in
-    let rest = cellWords (cells_in (drop (suc k) rs)) in
-    (λ i. take (start-next k i) (putRow ws (rowStart k) r.levels) ++ cellWords (cells_in (drop (add-one k i) rs))) ∙
-    ap (λ us. us ++ rest) (put-row ws (rowStart k) r.levels g) ∙
-    append_assoc (take (rowStart k) ws) (cellWords (get_or r.levels 0 noCell ∷ get_or r.levels 1 noCell ∷ get_or r.levels 2 noCell ∷ [])) rest ∙
-    ap (λ qs. take (rowStart k) ws ++ cellWords (cells_in qs)) (sym (drop-cons rs k no_row h))
+    let rest = cell_words (cells_in (drop (suc k) rs)) in
+    (λ i. take (start_next k i) (put_row ws (row_start k) r.levels) ++ cell_words (cells_in (drop (add-one k i) rs))) ∙
+    ap (λ us. us ++ rest) (put_row_lem ws (row_start k) r.levels g) ∙
+    append_assoc (take (row_start k) ws) (cell_words (get_or r.levels 0 no_cell ∷ get_or r.levels 1 no_cell ∷ get_or r.levels 2 no_cell ∷ [])) rest ∙
+    ap (λ qs. take (row_start k) ws ++ cell_words (cells_in qs)) (sym (drop-cons rs k no_row h))
 
-pub write-ends : (ws : List ℕ) (rs : List TypeRow) (k : ℕ) → length rs ≤ k → length ws ≤ rowStart k → take (rowStart k) ws ++ cellWords (cells_in (drop k rs)) ≡ ws
-write-ends ws rs k h g =
-    ap (λ qs. take (rowStart k) ws ++ cellWords (cells_in qs)) (drop_of_length-le rs h) ∙ append-nil (take (rowStart k) ws) ∙ take_all (rowStart k) ws g
+pub write_ends : (ws : List ℕ) (rs : List TypeRow) (k : ℕ) → length rs ≤ k → length ws ≤ row_start k → take (row_start k) ws ++ cell_words (cells_in (drop k rs)) ≡ ws
+write_ends ws rs k h g =
+    ap (λ qs. take (row_start k) ws ++ cell_words (cells_in qs)) (drop_of_length-le rs h) ∙ append-nil (take (row_start k) ws) ∙ take_all (row_start k) ws g
 
 -- ---- stores
 
@@ -136,15 +136,15 @@ pair_set (a ∷ []) x y e = absurd (omega (arith, e))
 pair_set (a ∷ b ∷ out) x y e = ap (λ us. x ∷ y ∷ us) (no_more out (length out) refl (omega (arith, e)))
 
 -- seven stores to the first seven of a ledger's words
-pub seven-set : (ws : List ℕ) (a b c d e f g : ℕ) → length ws ≡ ledgerWords → take 7 (set (set (set (set (set (set (set ws 0 a) 1 b) 2 c) 3 d) 4 e) 5 f) 6 g) ≡ a ∷ b ∷ c ∷ d ∷ e ∷ f ∷ g ∷ []
-seven-set [] a b c d e f g h = absurd (omega (arith, h))
-seven-set (_ ∷ []) a b c d e f g h = absurd (omega (arith, h))
-seven-set (_ ∷ _ ∷ []) a b c d e f g h = absurd (omega (arith, h))
-seven-set (_ ∷ _ ∷ _ ∷ []) a b c d e f g h = absurd (omega (arith, h))
-seven-set (_ ∷ _ ∷ _ ∷ _ ∷ []) a b c d e f g h = absurd (omega (arith, h))
-seven-set (_ ∷ _ ∷ _ ∷ _ ∷ _ ∷ []) a b c d e f g h = absurd (omega (arith, h))
-seven-set (_ ∷ _ ∷ _ ∷ _ ∷ _ ∷ _ ∷ []) a b c d e f g h = absurd (omega (arith, h))
-seven-set (_ ∷ _ ∷ _ ∷ _ ∷ _ ∷ _ ∷ _ ∷ ws) a b c d e f g h = refl
+pub seven_set : (ws : List ℕ) (a b c d e f g : ℕ) → length ws ≡ ledger_words → take 7 (set (set (set (set (set (set (set ws 0 a) 1 b) 2 c) 3 d) 4 e) 5 f) 6 g) ≡ a ∷ b ∷ c ∷ d ∷ e ∷ f ∷ g ∷ []
+seven_set [] a b c d e f g h = absurd (omega (arith, h))
+seven_set (_ ∷ []) a b c d e f g h = absurd (omega (arith, h))
+seven_set (_ ∷ _ ∷ []) a b c d e f g h = absurd (omega (arith, h))
+seven_set (_ ∷ _ ∷ _ ∷ []) a b c d e f g h = absurd (omega (arith, h))
+seven_set (_ ∷ _ ∷ _ ∷ _ ∷ []) a b c d e f g h = absurd (omega (arith, h))
+seven_set (_ ∷ _ ∷ _ ∷ _ ∷ _ ∷ []) a b c d e f g h = absurd (omega (arith, h))
+seven_set (_ ∷ _ ∷ _ ∷ _ ∷ _ ∷ _ ∷ []) a b c d e f g h = absurd (omega (arith, h))
+seven_set (_ ∷ _ ∷ _ ∷ _ ∷ _ ∷ _ ∷ _ ∷ ws) a b c d e f g h = refl
 
 -- ---- words that fit
 
@@ -169,12 +169,12 @@ each a b c d e f g h t =
     )
 
 -- the test, taken apart
-pub fit : (ws : List ℕ) → wordsFit ws ≡ true → Fit ws
-unfolding wordsFit
+pub fit : (ws : List ℕ) → words_fit ws ≡ true → Fit ws
+unfolding words_fit
 fit ws e =
-    let t = each (eqb (length ws) ledgerWords) (leb (word ws 0) 1) (leb (word ws 1) 65535) (leb (word ws 2) 4294967295) (leb (word ws 3) 4294967295) (leb (word ws 4) 4294967295) (leb (word ws 5) 65535) (leb (word ws 6) 65535) e in
+    let t = each (eqb (length ws) ledger_words) (leb (word ws 0) 1) (leb (word ws 1) 65535) (leb (word ws 2) 4294967295) (leb (word ws 3) 4294967295) (leb (word ws 4) 4294967295) (leb (word ws 5) 65535) (leb (word ws 6) 65535) e in
     record {
-      size = eqb-true (length ws) ledgerWords t.0;
+      size = eqb-true (length ws) ledger_words t.0;
       flag = leb-true (word ws 0) 1 t.1;
       year = leb-true (word ws 1) 65535 t.2;
       nn = leb-true (word ws 2) 4294967295 t.3;
@@ -185,7 +185,7 @@ fit ws e =
     }
 
 -- and put together
-pub fits : (ws : List ℕ) → Fit ws → wordsFit ws ≡ true
-unfolding wordsFit
+pub fits : (ws : List ℕ) → Fit ws → words_fit ws ≡ true
+unfolding words_fit
 fits ws w =
-    rw (eq-eqb (length ws) ledgerWords w.size, le-leb (word ws 0) 1 w.flag, le-leb (word ws 1) 65535 w.year, le-leb (word ws 2) 4294967295 w.nn, le-leb (word ws 3) 4294967295 w.vn, le-leb (word ws 4) 4294967295 w.vvn, le-leb (word ws 5) 65535 w.events, le-leb (word ws 6) 65535 w.short)
+    rw (eq-eqb (length ws) ledger_words w.size, le-leb (word ws 0) 1 w.flag, le-leb (word ws 1) 65535 w.year, le-leb (word ws 2) 4294967295 w.nn, le-leb (word ws 3) 4294967295 w.vn, le-leb (word ws 4) 4294967295 w.vvn, le-leb (word ws 5) 65535 w.events, le-leb (word ws 6) 65535 w.short)

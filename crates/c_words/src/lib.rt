@@ -1,9 +1,9 @@
 // A ledger lent by C as words of 64 bits under the header's word (include/temelyak.h): the ledger that the words hold, handed on to the call behind, and what
 // that call answers written back where the answer is 0.
 ghost use Rattle.std.specs.Prelude.{◌≡◌, ◌∷◌, [], ◌++◌, ◌+◌, ◌<◌, length, take, drop};
-ghost use Rattle.c_words.specs.Words.{wordsFirst, ledgerWords, wordsFit, Fit, ledgerIn, cells_of, cellWords, rows_of, cells_in, flagOf};
-ghost use Rattle.c_words.specs.Header.{headed, ifAccepted};
-ghost use Rattle.c_words.specs.Inside.{noLedger, lentLedger, written, settled, putCell, putRow, cell_at, row_at};
+ghost use Rattle.c_words.specs.Words.{words_first, ledger_words, words_fit, Fit, ledger_in, cells_of, cell_words, rows_of, cells_in, flag_of};
+ghost use Rattle.c_words.specs.Header.{headed, if_accepted};
+ghost use Rattle.c_words.specs.Inside.{no_ledger, lent_ledger, written, settled, put_cell, put_row, cell_at, row_at};
 
 use annex::{Customers, HalfMinutes};
 use codes::{LEVELS, ROWS};
@@ -35,7 +35,7 @@ pub struct Pair {
 
 // 1 or 0.
 pub fn flag(there: bool) -> u64
-    ensures { result ≡ flagOf there }
+    ensures { result ≡ flag_of there }
 {
     if there { 1 } else { 0 }
 }
@@ -51,7 +51,7 @@ fn wide(x: u32) -> u64
 
 // Whether words hold a ledger.
 fn words_fit(words: &[u64]) -> bool
-    ensures { result ≡ wordsFit words.now }
+    ensures { result ≡ words_fit words.now }
 {
     if words.len() != WORDS {
         return false;
@@ -92,8 +92,8 @@ fn row_at(words: &[u64], at: usize) -> TypeRow
 
 // The rows that words hold.
 fn rows_in(words: &[u64]) -> [TypeRow; ROWS]
-    requires { length words.now ≡ ledgerWords }
-    ensures { result ≡ rows_of (cells_of (drop wordsFirst words.now)) }
+    requires { length words.now ≡ ledger_words }
+    ensures { result ≡ rows_of (cells_of (drop words_first words.now)) }
 {
     let mut rows = [TypeRow::none(); ROWS];
     let mut k: usize = 0;
@@ -106,7 +106,7 @@ fn rows_in(words: &[u64]) -> [TypeRow; ROWS]
 
 // A ledger that every call refuses.
 fn no_ledger() -> Ledger
-    ensures { result ≡ noLedger }
+    ensures { result ≡ no_ledger }
 {
     let mut none = Ledger::empty();
     none.short = 1;
@@ -116,7 +116,7 @@ fn no_ledger() -> Ledger
 // The ledger that words hold.
 fn ledger_in(words: &[u64]) -> Ledger
     requires { Fit words.now }
-    ensures { result ≡ ledgerIn words.now }
+    ensures { result ≡ ledger_in words.now }
 {
     Ledger {
         sheet: Sheet {
@@ -133,7 +133,7 @@ fn ledger_in(words: &[u64]) -> Ledger
 // Writes a cell over two words.
 fn put_cell(words: &mut [u64], at: usize, cell: Cell)
     requires { at + 1 < length words.old }
-    ensures { words.new ≡ putCell words.old at cell }
+    ensures { words.new ≡ put_cell words.old at cell }
 {
     words[at] = cell.customers.0;
     words[at + 1] = cell.halves.0;
@@ -142,7 +142,7 @@ fn put_cell(words: &mut [u64], at: usize, cell: Cell)
 // Writes the cells of a row over six words.
 fn put_row(words: &mut [u64], at: usize, cells: [Cell; LEVELS])
     requires { at + 5 < length words.old }
-    ensures { words.new ≡ putRow words.old at cells }
+    ensures { words.new ≡ put_row words.old at cells }
 {
     put_cell(words, at, cells[0]);
     put_cell(words, at + 2, cells[1]);
@@ -151,8 +151,8 @@ fn put_row(words: &mut [u64], at: usize, cells: [Cell; LEVELS])
 
 // Writes the rows over the words after the first FIRST.
 fn write_rows(words: &mut [u64], rows: [TypeRow; ROWS])
-    requires { length words.old ≡ ledgerWords }
-    ensures { words.new ≡ take wordsFirst words.old ++ cellWords (cells_in rows) }
+    requires { length words.old ≡ ledger_words }
+    ensures { words.new ≡ take words_first words.old ++ cell_words (cells_in rows) }
 {
     let mut k: usize = 0;
     while k < ROWS {
@@ -197,7 +197,7 @@ pub fn answer_by(header: u64, answer: u8) -> u32
 
 // The ledger that words hold; a ledger that every call refuses where words hold none, or where the caller was built with another header.
 pub fn lent_ledger(header: u64, words: &[u64]) -> Ledger
-    ensures { result ≡ lentLedger header words.now }
+    ensures { result ≡ lent_ledger header words.now }
 {
     if header != HEADER {
         return no_ledger();
@@ -224,7 +224,7 @@ pub fn settle(header: u64, words: &mut [u64], taken: Taken) -> u32
 // The same of two numbers and an output of two words.
 pub fn put(header: u64, out: &mut [u64], pair: Pair) -> u32
     requires { length out.old ≡ 2 }
-    ensures { (result ≡ headed header pair.answer) × (out.new ≡ ifAccepted (headed header pair.answer) (pair.first ∷ pair.second ∷ []) out.old) }
+    ensures { (result ≡ headed header pair.answer) × (out.new ≡ if_accepted (headed header pair.answer) (pair.first ∷ pair.second ∷ []) out.old) }
 {
     let answer = answer_by(header, pair.answer);
     if answer != 0 {

@@ -6,8 +6,8 @@ use Rattle.calendar.proofs.date_of.Reads as date-of
 use Rattle.calendar.proofs.minute_of.Kinds as minute-of-kinds
 use Rattle.calendar.proofs.minute_of.Reads as minute-of
 
-pub date-of-one : OneOutcome date-of-kinds.ps date-of-kinds.r date-of.Post
-date-of-one κs a x y v w p q = (alike p q, refl)
+pub date_of_one : OneOutcome date-of-kinds.ps date-of-kinds.r date-of.Post
+date_of_one κs a x y v w p q = (alike p q, refl)
 
-pub minute-of-one : OneOutcome minute-of-kinds.ps minute-of-kinds.r minute-of.Post
-minute-of-one κs a x y v w p q = (alike p q, refl)
+pub minute_of_one : OneOutcome minute-of-kinds.ps minute-of-kinds.r minute-of.Post
+minute_of_one κs a x y v w p q = (alike p q, refl)

@@ -8,44 +8,44 @@ abbrev pub months : ℕ → List ℕ
 months year = 31 ∷ cond (eqb (year % 4) 0) 29 28 ∷ 31 ∷ 30 ∷ 31 ∷ 30 ∷ 31 ∷ 31 ∷ 30 ∷ 31 ∷ 30 ∷ 31 ∷ []
 
 -- the days of a month, from 1 for January
-unfoldable pub daysIn : ℕ → ℕ → ℕ
-daysIn year zero = 0
-daysIn year (suc m) = get_or (months year) m 0
+unfoldable pub days_in : ℕ → ℕ → ℕ
+days_in year zero = 0
+days_in year (suc m) = get_or (months year) m 0
 
 -- the month that the d-th day (from 0) of some months falls in, and its day there, each from 1
-abbrev pub monthIn : List ℕ → ℕ → ℕ
-monthIn [] d = 1
-monthIn (n ∷ ns) d = cond (ltb d n) 1 (suc (monthIn ns (d - n)))
+abbrev pub month_in : List ℕ → ℕ → ℕ
+month_in [] d = 1
+month_in (n ∷ ns) d = cond (ltb d n) 1 (suc (month_in ns (d - n)))
 
-abbrev pub dayIn : List ℕ → ℕ → ℕ
-dayIn [] d = d + 1
-dayIn (n ∷ ns) d = cond (ltb d n) (d + 1) (dayIn ns (d - n))
+abbrev pub day_in : List ℕ → ℕ → ℕ
+day_in [] d = d + 1
+day_in (n ∷ ns) d = cond (ltb d n) (d + 1) (day_in ns (d - n))
 
-unfoldable pub dateOf : ℕ → ℕ → Date
-dateOf year t =
+unfoldable pub date_of : ℕ → ℕ → Date
+date_of year t =
     record {
-      month = monthIn (months year) (t / 1440);
-      day = dayIn (months year) (t / 1440);
+      month = month_in (months year) (t / 1440);
+      day = day_in (months year) (t / 1440);
       hour = t % 1440 / 60;
       minute = t % 60;
     }
 
 -- the days of some months before the m-th, from 1
-abbrev pub daysUpTo : List ℕ → ℕ → ℕ
-daysUpTo [] m = 0
-daysUpTo (n ∷ ns) m = cond (leb m 1) 0 (n + daysUpTo ns (m - 1))
+abbrev pub days_up_to : List ℕ → ℕ → ℕ
+days_up_to [] m = 0
+days_up_to (n ∷ ns) m = cond (leb m 1) 0 (n + days_up_to ns (m - 1))
 
-unfoldable pub daysBefore : ℕ → ℕ → ℕ
-daysBefore year month = daysUpTo (months year) month
+unfoldable pub days_before : ℕ → ℕ → ℕ
+days_before year month = days_up_to (months year) month
 
 -- a year has a date whose month has the day, and whose hour and minute a day has
-abbrev pub noMinute : Minute
-noMinute = record { there = false; value = 0 }
+abbrev pub no_minute : Minute
+no_minute = record { there = false; value = 0 }
 
-unfoldable pub minuteOf : ℕ → Date → Minute
-minuteOf year d =
-    cond (eqb d.day 0) noMinute
-    (cond (ltb (daysIn year d.month) d.day) noMinute
-    (cond (ltb 23 d.hour) noMinute
-    (cond (ltb 59 d.minute) noMinute
-    (record { there = true; value = (daysBefore year d.month + (d.day - 1)) * 1440 + d.hour * 60 + d.minute }))))
+unfoldable pub minute_of : ℕ → Date → Minute
+minute_of year d =
+    cond (eqb d.day 0) no_minute
+    (cond (ltb (days_in year d.month) d.day) no_minute
+    (cond (ltb 23 d.hour) no_minute
+    (cond (ltb 59 d.minute) no_minute
+    (record { there = true; value = (days_before year d.month + (d.day - 1)) * 1440 + d.hour * 60 + d.minute }))))

@@ -1,6 +1,6 @@
 // Minutes from 1 January 00:00 of a year as a month, a day, an hour and a minute, and back.
 ghost use Rattle.std.specs.Prelude.{◌≡◌};
-ghost use Rattle.calendar.specs.Calendar.{daysIn, dateOf, minuteOf};
+ghost use Rattle.calendar.specs.Calendar.{days_in, date_of, minute_of};
 
 // A day of a year by its month and its number in it, both from 1, and a time of that day.
 #[derive(Drop)]
@@ -20,7 +20,7 @@ pub struct Minute {
 
 // The days of a month of a year from 2000 to 2099, from 1 for January; past December none.
 fn days_in(year: u16, month: u32) -> u32
-    ensures { result ≡ daysIn year month }
+    ensures { result ≡ days_in year month }
 {
     if month == 2 {
         if year % 4 == 0 {
@@ -51,7 +51,7 @@ fn days_in(year: u16, month: u32) -> u32
 
 // The date of a minute of a year. Past the year's end the month is 13, and the days go on.
 pub fn date_of(year: u16, time: u32) -> Date
-    ensures { result ≡ dateOf year time }
+    ensures { result ≡ date_of year time }
 {
     let mut month: u32 = 1;
     let mut day = time / 1440;
@@ -73,7 +73,7 @@ pub fn date_of(year: u16, time: u32) -> Date
 
 // The days of a year before a month.
 fn days_before(year: u16, month: u32) -> u32
-    ensures { result ≡ Rattle.calendar.specs.Calendar.daysBefore year month }
+    ensures { result ≡ Rattle.calendar.specs.Calendar.days_before year month }
 {
     let mut m: u32 = 1;
     let mut days: u32 = 0;
@@ -89,7 +89,7 @@ fn days_before(year: u16, month: u32) -> u32
 
 // The minute of a date, where the year has that date.
 pub fn minute_of(year: u16, date: Date) -> Minute
-    ensures { result ≡ minuteOf year date }
+    ensures { result ≡ minute_of year date }
 {
     let days = days_in(year, date.month);
     if date.day == 0 {

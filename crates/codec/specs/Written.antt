@@ -4,18 +4,18 @@ use Rattle.wire.specs.Numbers.{le2, le4}
 use Rattle.fields.specs.Table.{Width, One, Two, Four, length_of}
 use Rattle.codec.specs.Codec.{frame}
 
-abbrev pub inBytes : Width → ℕ → List ℕ
-inBytes One v = v % 256 ∷ []
-inBytes Two v = le2 v
-inBytes Four v = le4 v
+abbrev pub in_bytes : Width → ℕ → List ℕ
+in_bytes One v = v % 256 ∷ []
+in_bytes Two v = le2 v
+in_bytes Four v = le4 v
 
 abbrev pub written : List Width → List ℕ → List ℕ
 written [] vs = []
 written (w ∷ ws) [] = []
-written (w ∷ ws) (v ∷ vs) = inBytes w v ++ written ws vs
+written (w ∷ ws) (v ∷ vs) = in_bytes w v ++ written ws vs
 
-abbrev pub recordBy : ℕ → List Width → List ℕ → List ℕ
-recordBy kind ws vs = frame (length_of ws) kind ++ written ws vs
+abbrev pub record_by : ℕ → List Width → List ℕ → List ℕ
+record_by kind ws vs = frame (length_of ws) kind ++ written ws vs
 
 -- a number for each field, which fits its bytes
 abbrev pub room : Width → ℕ

@@ -10,14 +10,14 @@ use Rattle.codes.proofs.is_cause.Reads as is-cause
 use Rattle.codes.proofs.holds_row.Kinds as holds-row-kinds
 use Rattle.codes.proofs.holds_row.Reads as holds_row
 
-pub row-of-one : OneOutcome row-of-kinds.ps row-of-kinds.r row_of.Post
-row-of-one κs a x y v w p q = (alike p q, refl)
+pub row_of_one : OneOutcome row-of-kinds.ps row-of-kinds.r row_of.Post
+row_of_one κs a x y v w p q = (alike p q, refl)
 
-pub level-of-one : OneOutcome level-of-kinds.ps level-of-kinds.r level-of.Post
-level-of-one κs a x y v w p q = (alike p q, refl)
+pub level_of_one : OneOutcome level-of-kinds.ps level-of-kinds.r level-of.Post
+level_of_one κs a x y v w p q = (alike p q, refl)
 
-pub is-cause-one : OneOutcome is-cause-kinds.ps is-cause-kinds.r is-cause.Post
-is-cause-one κs a x y v w p q = (alike p q, refl)
+pub is_cause_one : OneOutcome is-cause-kinds.ps is-cause-kinds.r is-cause.Post
+is_cause_one κs a x y v w p q = (alike p q, refl)
 
-pub holds-row-one : OneOutcome holds-row-kinds.ps holds-row-kinds.r holds_row.Post
-holds-row-one κs a x y v w p q = (alike p q, refl)
+pub holds_row_one : OneOutcome holds-row-kinds.ps holds-row-kinds.r holds_row.Post
+holds_row_one κs a x y v w p q = (alike p q, refl)

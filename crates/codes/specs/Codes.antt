@@ -13,8 +13,8 @@ abbrev pub rows : ℕ
 rows = 7
 
 -- a type that is not listed has the row past the last one
-unfoldable pub rowOf : ℕ → ℕ
-rowOf typ = place typ types
+unfoldable pub row_of : ℕ → ℕ
+row_of typ = place typ types
 
 -- the levels are 0, 1 and 2, NN lowest
 abbrev pub levels : ℕ
@@ -41,30 +41,30 @@ voltages =
     (7, VVN) ∷ []  -- 110 kV
 
 -- the level in the first row that has the code; a code that is not listed has the level past the last
-abbrev pub levelIn : ℕ → List Voltage → ℕ
-levelIn voltage [] = levels
-levelIn voltage (r ∷ rs) = cond (eqb voltage r.0) r.1 (levelIn voltage rs)
+abbrev pub level_in : ℕ → List Voltage → ℕ
+level_in voltage [] = levels
+level_in voltage (r ∷ rs) = cond (eqb voltage r.0) r.1 (level_in voltage rs)
 
-unfoldable pub levelOf : ℕ → ℕ
-levelOf voltage = levelIn voltage voltages
+unfoldable pub level_of : ℕ → ℕ
+level_of voltage = level_in voltage voltages
 
--- the same by ranges, for every number (`CodeLaws.table-by-ranges`)
-abbrev pub levelByRanges : ℕ → ℕ
-levelByRanges voltage = cond (eqb voltage 1) 0 (cond (leb 2 voltage && leb voltage 6) 1 (cond (eqb voltage 7) 2 levels))
+-- the same by ranges, for every number (`CodeLaws.table_by_ranges`)
+abbrev pub level_by_ranges : ℕ → ℕ
+level_by_ranges voltage = cond (eqb voltage 1) 0 (cond (leb 2 voltage && leb voltage 6) 1 (cond (eqb voltage 7) 2 levels))
 
 -- 9.6, as printed; "0 means not recorded and counts as listed"
 unfoldable pub causes : List ℕ
 causes = 1 ∷ 2 ∷ 3 ∷ 4 ∷ 9 ∷ 11 ∷ 12 ∷ 13 ∷ 14 ∷ 19 ∷ 21 ∷ 22 ∷ 23 ∷ 24 ∷ 25 ∷ 26 ∷ 29 ∷ 31 ∷ 32 ∷ 33 ∷ 34 ∷ 39 ∷ []
 
-unfoldable pub causeListed : ℕ → Bool
-causeListed cause = eqb cause 0 || listed cause causes
+unfoldable pub cause_listed : ℕ → Bool
+cause_listed cause = eqb cause 0 || listed cause causes
 
 -- "Set 'std' (the compliance figures) holds 11, 12 and 2; types 13 to 16 are left out."
 abbrev pub compliance : List ℕ
 compliance = 11 ∷ 12 ∷ 2 ∷ []
 
 -- the set holds the type of this row; 02, K10: "A request that names no set now means 'std'."
-unfoldable pub rowHeld : Set → ℕ → Bool
-rowHeld All row = ltb row rows
-rowHeld Std row = listed (get_or types row 0) compliance
-rowHeld Unnamed row = listed (get_or types row 0) compliance
+unfoldable pub row_held : Set → ℕ → Bool
+row_held All row = ltb row rows
+row_held Std row = listed (get_or types row 0) compliance
+row_held Unnamed row = listed (get_or types row 0) compliance

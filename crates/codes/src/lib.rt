@@ -1,7 +1,7 @@
 // The code lists of section 9 of the annex: event types and their rows in the ledger, voltages and their levels, causes, and the sets of types.
 ghost use Rattle.std.specs.Prelude.{◌≡◌};
 ghost use Rattle.base.specs.Lists.{listed};
-ghost use Rattle.codes.specs.Codes.{rowOf, levelIn, levelOf, causeListed, rowHeld};
+ghost use Rattle.codes.specs.Codes.{row_of, level_in, level_of, cause_listed, row_held};
 ghost use Rattle.codes.specs.declared.Set.TheVariants.{Std};
 
 // How many rows the ledger has, one for each event type, and how many levels: NN, VN, VVN.
@@ -58,7 +58,7 @@ pub enum Set {
 
 // The ledger's row of an event type; NO_ROW where the type is not listed.
 pub fn row_of(typ: u8) -> u8
-    ensures { result ≡ rowOf typ }
+    ensures { result ≡ row_of typ }
 {
     let fault = (11 <= typ) & (typ <= 16);
     if fault {
@@ -72,7 +72,7 @@ pub fn row_of(typ: u8) -> u8
 
 // The lookup: the level in the first row that has the code; NO_LEVEL where none has it.
 fn level_in(table: [Voltage; 7], voltage: u8) -> u8
-    ensures { result ≡ levelIn voltage table }
+    ensures { result ≡ level_in voltage table }
 {
     let mut i = 0;
     while i < 7 {
@@ -87,7 +87,7 @@ fn level_in(table: [Voltage; 7], voltage: u8) -> u8
 
 // The level of a voltage code; NO_LEVEL where the code is not listed.
 pub fn level_of(voltage: u8) -> u8
-    ensures { result ≡ levelOf voltage }
+    ensures { result ≡ level_of voltage }
 {
     level_in(VOLTAGES, voltage)
 }
@@ -108,21 +108,21 @@ fn in_table(table: [u8; 22], code: u8) -> bool
 
 // Whether a cause is listed; 0 means not recorded and counts as listed.
 pub fn is_cause(cause: u8) -> bool
-    ensures { result ≡ causeListed cause }
+    ensures { result ≡ cause_listed cause }
 {
     (cause == 0) | in_table(CAUSES, cause)
 }
 
 // Whether a row is that of a compliance type: 11, 12 or 2.
 fn is_compliance(row: u8) -> bool
-    ensures { result ≡ rowHeld Std row }
+    ensures { result ≡ row_held Std row }
 {
     (row == 0) | (row == 1) | (row == 6)
 }
 
 // Whether a set holds the type of a row.
 pub fn holds_row(set: Set, row: u8) -> bool
-    ensures { result ≡ rowHeld set row }
+    ensures { result ≡ row_held set row }
 {
     match set {
         Set::All => row < NO_ROW,

@@ -1,6 +1,6 @@
 // Decimals of exact fractions, to nearest, a tie upward, by long division: no figure that a sound ledger holds is too large for it.
 ghost use Rattle.std.specs.Prelude.{◌≡◌, ◌+◌, ◌*◌, ◌<◌, ◌≤◌, ◌^◌};
-ghost use Rattle.decimal.specs.Decimal.{decimally, shownNumbers, splitAt, Tenfold, Divided};
+ghost use Rattle.decimal.specs.Decimal.{decimally, shown_numbers, split_at, Tenfold, Divided};
 
 use ratio::Fraction;
 
@@ -79,7 +79,7 @@ fn divide(m: u64, d: u64, digits: u8) -> Division
 // A whole part with digits that may have come to a whole one: then it is carried.
 fn carried(whole: u64, power: u64, digits: u64) -> Decimal
     requires { (digits ≤ power) × (0 < power) × (whole < 18446744073709551615) }
-    ensures { result ≡ splitAt (whole * power + digits) power }
+    ensures { result ≡ split_at (whole * power + digits) power }
 {
     if digits == power {
         return Decimal {
@@ -92,7 +92,7 @@ fn carried(whole: u64, power: u64, digits: u64) -> Decimal
 
 // A fraction with so many digits after the point: 17 where its bottom is 0, then 18 for more than 6 digits.
 pub fn decimal_of(f: Fraction, digits: u8) -> Shown
-    ensures { decimally result ≡ shownNumbers f digits }
+    ensures { decimally result ≡ shown_numbers f digits }
 {
     let d = f.bottom;
     if d == 0 {

@@ -1,6 +1,6 @@
 -- An array `[T; n]` in a local that is lent whole as a `&κ mut [T]` and comes back at what the slice has come to.
 --     cell_in          the local's cell, at the array xs, is xs in memory.        cell_out      and back, with the array's relation
---     lends-whole      given `Room`:  xs in memory  ⊢ ⇛ ∃ γ. own (the `&κ mut [T]` ((b, o), γ, xs)) ∗ the lender's part
+--     lends_whole      given `Room`:  xs in memory  ⊢ ⇛ ∃ γ. own (the `&κ mut [T]` ((b, o), γ, xs)) ∗ the lender's part
 --     whole_back       [†κ] ∗ the lender's part ∗ finally γ zs  ⊢ ⇛ (zs in memory)
 -- The laws take `Logic`, which every walk has. Assumes nothing.
 use mathlib.Core.Path.{◌≡◌, refl, ◌∙◌, subst}
@@ -42,8 +42,8 @@ module _ (R : RattleType) (n : ℕ) {M : Type 1} {𝓤 : Ura M} (𝓛 : Logic �
       qed 𝓛 (‵ (part_at (Array R n) full_share xs b o) ∷ []) ∵ fpick ! (λ vs. fsplit ! $ move ! (1 ∷ []) $ facts ! (Array R n) (Is (Array R n)) (shows 𝓛 (Array R n)) xs vs (λ p.
       rewrite ! 0 (λ (us : List Val). ‵ (cell_at full_share (Array R n).mir us b o)) (Array-Tells R vals tl n xs vs p) refl $ check ! (subst (Is (Array R n) xs) (Array-Tells R vals tl n xs vs p) p) $ done !))
 
-  pub lends-whole : Single R.mir → (ℓ : Lifetime) (κ : Lft) (xs : List R.Denot) → Room R (length xs) → ent 𝓤 (sem 𝓛 (part_at (Array R n) full_share xs b o)) (H.⇛ (ex 𝓤 (Lent 𝓛 R ℓ κ xs b o)))
-  lends-whole one ℓ κ xs room =
+  pub lends_whole : Single R.mir → (ℓ : Lifetime) (κ : Lft) (xs : List R.Denot) → Room R (length xs) → ent 𝓤 (sem 𝓛 (part_at (Array R n) full_share xs b o)) (H.⇛ (ex 𝓤 (Lent 𝓛 R ℓ κ xs b o)))
+  lends_whole one ℓ κ xs room =
       qed 𝓛 (‵ (part_at (Array R n) full_share xs b o) ∷ []) ∵ use1 𝓛 (‵ ((arr_parts (shares R) n).part full_share xs b o)) (Array-apart 𝓛 R full_share one n xs b o) $ fsplit ! $ drop ! $
       use1 𝓛 (‵ (cells (mem R) xs b o)) (whole_in 𝓛 R xs b o) $ by ! (lends_slice 𝓛 R ℓ κ xs b o room)
 

@@ -1,5 +1,5 @@
 -- No second outcome meets what `serve` promises: answer, ledger, map and desk are decided. A function that is proved by a walk has its contract as
--- an assertion; `serve-says` says by computing that this assertion is the plain claim `Promise`, and the claim fixes the outcome.
+-- an assertion; `serve_says` says by computing that this assertion is the plain claim `Promise`, and the claim fixes the outcome.
 -- Assumes nothing.
 use mathlib.Core.Path.{◌≡◌, refl}
 use seplogic.Ra.Ura.{Ura}
@@ -12,7 +12,7 @@ use contract.Monad.{Fun, fact}
 use denote.Triple.Entry.{Args, Res}
 use denote.Triple.Clauses.{Ended, Lasts, AtExit, at_exit}
 use Rattle.base.proofs.OneOutcome.{alike}
-use Rattle.desk_rules.specs.Serve.{servedOf, mapServed, deskServed}
+use Rattle.desk_rules.specs.Serve.{served_of, map_served, desk_served}
 use Rattle.desk.specs.contracts.serve as serve
 
 -- a claim of the lifetimes, the arguments, the result and the parameters at exit
@@ -30,14 +30,14 @@ OneOutcomeOf T Post =
 -- what `serve` promises: of ledger a .0, map a .1 .0, desk a .1 .1 .0 and message a .1 .1 .1 .0, with map e .1 .0 and desk e .1 .1 .0 at exit
 abbrev pub Promise : Claim serve.ended
 Promise κs a r e =
-    (r ≡ servedOf a.0 a.1.0.now a.1.1.0.now a.1.1.1.0.now) ×
-    (e.1.0.now ≡ mapServed a.0 a.1.0.now a.1.1.0.now a.1.1.1.0.now) ×
-    (e.1.1.0.now ≡ deskServed a.0 a.1.0.now a.1.1.0.now a.1.1.1.0.now)
+    (r ≡ served_of a.0 a.1.0.now a.1.1.0.now a.1.1.1.0.now) ×
+    (e.1.0.now ≡ map_served a.0 a.1.0.now a.1.1.0.now a.1.1.1.0.now) ×
+    (e.1.1.0.now ≡ desk_served a.0 a.1.0.now a.1.1.0.now a.1.1.1.0.now)
 
 -- it is the contract as it is read from src/
-pub serve-says : {M : Type 1} {𝓤 : Ura M} (𝓛 : Logic 𝓤) (mem : Memory → SProp 𝓤) (run : Routine → Fun 𝓤) (κs : Lfts 3) (a : Args serve.signature κs) (r : Res serve.signature κs) (e : AtExit serve.ended κs)
+pub serve_says : {M : Type 1} {𝓤 : Ura M} (𝓛 : Logic 𝓤) (mem : Memory → SProp 𝓤) (run : Routine → Fun 𝓤) (κs : Lfts 3) (a : Args serve.signature κs) (r : Res serve.signature κs) (e : AtExit serve.ended κs)
     → (serve.clauses 𝓛 mem run κs a).ensures tt r e ≡ fact 𝓤 (Promise κs a r e)
-serve-says 𝓛 mem run κs a r e = refl
+serve_says 𝓛 mem run κs a r e = refl
 
-pub serve-one : OneOutcomeOf serve.ended Promise
-serve-one κs a x y v w p q = (alike p.0 q.0, λ i. (tt, (alike p.1 q.1 i, (alike p.2 q.2 i, (tt, tt)))))
+pub serve_one : OneOutcomeOf serve.ended Promise
+serve_one κs a x y v w p q = (alike p.0 q.0, λ i. (tt, (alike p.1 q.1 i, (alike p.2 q.2 i, (tt, tt)))))

@@ -1,7 +1,7 @@
 -- A `&κ mut [T]` that is lent as a `&κ' [T]` for a lifetime κ' of a call, and comes back as it was: the borrow at κ is opened for the call, and closed at the same list after it.
 --     LentOut          what the holder keeps while the slice is lent so: the lender's part at κ', and its own borrow at κ, open, with both halves of its ghost variable
 --     lends_out        own (the `&κ mut [T]` ((b, o), γ, ys)) ∗ [κ]_q  ⊢ ⇛ ∃ δ. own (the `&κ' [T]` ((b, o), δ, ys)) ∗ LentOut
---     out-back         given `Room`:  [†κ'] ∗ LentOut  ⊢ ⇛ (own (the `&κ mut [T]` ((b, o), γ, ys)) ∗ [κ]_q)
+--     out_back         given `Room`:  [†κ'] ∗ LentOut  ⊢ ⇛ (own (the `&κ mut [T]` ((b, o), γ, ys)) ∗ [κ]_q)
 -- And one that is not used:
 --     unused           own (the `&κ mut [T]` ((b, o), γ, ys))  ⊢  finally γ ys
 -- The laws take `Logic`, which every walk has. Assumes nothing.
@@ -50,8 +50,8 @@ module _ (R : RattleType) (κ κ' : Lft) (q : Share) (γ : GName) (b o : ℕ) (y
         at_once ! $ show ! (λ (δ' : GName). sep 𝓤 (sem 𝓛 ((ShrSlice ℓ' κ' R).own_val (at_name δ') vals)) (sem 𝓛 LentOut)) δ $ frame ! $
         move ! (2 ∷ 3 ∷ []) $ fjoin ! $ move ! (2 ∷ 0 ∷ []) $ fjoin ! $ move ! (1 ∷ 0 ∷ []) $ fjoin ! $ done !))
 
-    pub out-back : Room R (length ys) → ent 𝓤 (sep 𝓤 (A.dead κ') (sem 𝓛 LentOut)) (H.⇛ (sep 𝓤 (sem 𝓛 ((MutSlice ℓ κ R).own_val (at_name γ) vals)) (A.lft κ q)))
-    out-back room =
+    pub out_back : Room R (length ys) → ent 𝓤 (sep 𝓤 (A.dead κ') (sem 𝓛 LentOut)) (H.⇛ (sep 𝓤 (sem 𝓛 ((MutSlice ℓ κ R).own_val (at_name γ) vals)) (A.lft κ q)))
+    out_back room =
         qed 𝓛 (‵ (fdead κ') ∷ ‵ LentOut ∷ []) ∵ updating ! $ move ! (1 ∷ []) $ fsplit ! $ move ! (2 ∷ 0 ∷ []) $ lent_back ! tt $ fsplit ! $ drop ! $
         -- [the row; the open borrow, with obs and auth]
         move ! (1 ∷ []) $ fsplit ! $ move ! (1 ∷ []) $ fsplit ! $ move ! (3 ∷ 2 ∷ 0 ∷ 1 ∷ []) $ closes_slice ! tt R ys ys refl b o $ at_once ! $

@@ -33,12 +33,12 @@ pub tells : Tells R (Is R) vals
 tells = LL.tells T.the_type T'.the_laws
 
 -- where the element i lies
-pub place-slot : (o i : ℕ) → place 72 o i ≡ i * 72 + o
-place-slot o i = place_is 72 o i
+pub place_slot : (o i : ℕ) → place 72 o i ≡ i * 72 + o
+place_slot o i = place_is 72 o i
 
 -- the offset of an element of a slice fits
-pub offset-fits : (n i : ℕ) → Room R n → i < n → i * 72 < 2 ^ 64
-offset-fits n i room l = omega (arith, room.1, l)
+pub offset_fits : (n i : ℕ) → Room R n → i < n → i * 72 < 2 ^ 64
+offset_fits n i room l = omega (arith, room.1, l)
 
 -- b without its first statement, and without its first n
 abbrev pub later : Body → Body
@@ -66,15 +66,15 @@ ty_at (suc n) (local τ h ∷ ls) = ty_at n ls
 
 module _ {M : Type 1} {𝓤 : Ura M} (𝓛 : Logic 𝓤) where
   -- what is owned of a slot shows its relation, may be copied, and is made by the relation for nothing
-  pub slot-shows : Shows 𝓛 R (Is R)
-  slot-shows = shows 𝓛 R
+  pub slot_shows : Shows 𝓛 R (Is R)
+  slot_shows = shows 𝓛 R
 
-  pub slot-copy : Copy 𝓛 R
-  slot-copy = LL.copy T.the_type T'.the_copy 𝓛
+  pub slot_copy : Copy 𝓛 R
+  slot_copy = LL.copy T.the_type T'.the_copy 𝓛
 
-  pub slot-makes : Makes 𝓛 R (Is R)
-  slot-makes = LL.makes T.the_type T'.the_plain 𝓛
+  pub slot_makes : Makes 𝓛 R (Is R)
+  slot_makes = LL.makes T.the_type T'.the_plain 𝓛
 
   -- the machine value has the struct's MIR type
-  pub slot-typed : (s : Slot) → Is R s (vals s) → Holds (has_ty T'.mir (mach s)) × WT (mach s)
-  slot-typed s g = ((LL.lawful T.the_type T'.the_laws 𝓛).typed s (vals s) g).0
+  pub slot_typed : (s : Slot) → Is R s (vals s) → Holds (has_ty T'.mir (mach s)) × WT (mach s)
+  slot_typed s g = ((LL.lawful T.the_type T'.the_laws 𝓛).typed s (vals s) g).0

@@ -1,10 +1,10 @@
 // The desk: a lent table of 32 slots, and the one entry for open, step and close. The rules stand in `desk_rules`; here a slot is taken out by value
 // and written back, and no function knows a rule but how many slots a desk has.
 ghost use Rattle.std.specs.Prelude.{◌≡◌, true, length, get_or, set};
-ghost use Rattle.desk_scan.specs.Inside.{rollBy, rolled};
-ghost use Rattle.desk_rules.specs.Rules.{lookAt};
+ghost use Rattle.desk_scan.specs.Inside.{roll_by, rolled};
+ghost use Rattle.desk_rules.specs.Rules.{look_at};
 ghost use Rattle.desk_rules.specs.Plan.{plan_of};
-ghost use Rattle.desk_rules.specs.Serve.{servedOf, mapServed, deskServed};
+ghost use Rattle.desk_rules.specs.Serve.{served_of, map_served, desk_served};
 
 use desk_rules::{Plan, Served};
 use desk_scan::Roll;
@@ -29,7 +29,7 @@ fn slot_put(desk: &mut [Slot], i: usize, slot: Slot)
 
 // Enters all slots, from the first: their numbers are written among the numbers, and the answer is whether all slots are sound.
 fn enter_all(desk: &[Slot], numbers: &mut [u16]) -> bool
-    ensures { (result ≡ (rolled (rollBy true numbers.old) 0 desk.now).sound) × (numbers.new ≡ (rolled (rollBy true numbers.old) 0 desk.now).numbers) }
+    ensures { (result ≡ (rolled (roll_by true numbers.old) 0 desk.now).sound) × (numbers.new ≡ (rolled (roll_by true numbers.old) 0 desk.now).numbers) }
 {
     let mut sound = true;
     let mut i: usize = 0;
@@ -42,7 +42,7 @@ fn enter_all(desk: &[Slot], numbers: &mut [u16]) -> bool
 
 // What a message is to do to a desk, which is only read.
 fn planned(desk: &[Slot], ledger: Ledger, map: &[u8], bytes: &[u8]) -> Plan
-    ensures { result ≡ plan_of (lookAt desk.now bytes.now) (length desk.now) ledger map.now bytes.now }
+    ensures { result ≡ plan_of (look_at desk.now bytes.now) (length desk.now) ledger map.now bytes.now }
 {
     let mut numbers = [0u16; 32];
     let sound = enter_all(desk, &mut numbers);
@@ -55,7 +55,7 @@ fn planned(desk: &[Slot], ledger: Ledger, map: &[u8], bytes: &[u8]) -> Plan
 // changes the slot that holds its number; an accepted close adds its event to the ledger and frees its slot. A desk that is not 32 slots is refused
 // before a slot is looked at: what it is told to be may be more than there is.
 pub fn serve(ledger: Ledger, map: &mut [u8], desk: &mut [Slot], bytes: &[u8]) -> Served
-    ensures { (result ≡ servedOf ledger map.old desk.old bytes.now) × (map.new ≡ mapServed ledger map.old desk.old bytes.now) × (desk.new ≡ deskServed ledger map.old desk.old bytes.now) }
+    ensures { (result ≡ served_of ledger map.old desk.old bytes.now) × (map.new ≡ map_served ledger map.old desk.old bytes.now) × (desk.new ≡ desk_served ledger map.old desk.old bytes.now) }
 {
     if desk.len() != desk_scan::SLOTS {
         return Served { answer: 1, ledger };

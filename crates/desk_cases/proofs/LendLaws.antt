@@ -7,14 +7,14 @@ use lib.ListN.{length, take}
 use lib.Seq.{length-take-le}
 
 -- the smaller of the two, by cases
-pub min-below : (n k : ℕ) → n < k → n ≡ min n k
-min-below n k l = sym (min-eq_left (le_of_lt l))
+pub min_below : (n k : ℕ) → n < k → n ≡ min n k
+min_below n k l = sym (min-eq_left (le_of_lt l))
 
-pub min-above : (n k : ℕ) → k ≤ n → k ≡ min n k
-min-above n k l = sym (min_comm n k ∙ min-eq_left l)
+pub min_above : (n k : ℕ) → k ≤ n → k ≡ min n k
+min_above n k l = sym (min_comm n k ∙ min-eq_left l)
 
-pub min-within : (n k : ℕ) → min n k ≤ k
-min-within n k = subst (λ (j : ℕ). j ≤ k) (min_comm k n) (min-le_left k n)
+pub min_within : (n k : ℕ) → min n k ≤ k
+min_within n k = subst (λ (j : ℕ). j ≤ k) (min_comm k n) (min-le_left k n)
 
-pub length-first : {X : Type 0} (xs : List X) (k n : ℕ) → length xs ≡ k → length (take (min n k) xs) ≡ min n k
-length-first xs k n full = length-take-le (min n k) xs (subst (λ (j : ℕ). min n k ≤ j) (sym full) (min-within n k))
+pub length_first : {X : Type 0} (xs : List X) (k n : ℕ) → length xs ≡ k → length (take (min n k) xs) ≡ min n k
+length_first xs k n full = length-take-le (min n k) xs (subst (λ (j : ℕ). min n k ≤ j) (sym full) (min_within n k))

@@ -15,18 +15,18 @@ use Rattle.desk_cases.proofs.Lent.TheLaws as TLent'
 abbrev pub LentR : RattleType
 LentR = TLent.the_row
 
-abbrev pub lent-mach : Lent → Val
-lent-mach x = LL.tuple_val TLent.the_type TLent'.the_laws ((TLent.the_type).to x)
+abbrev pub lent_mach : Lent → Val
+lent_mach x = LL.tuple_val TLent.the_type TLent'.the_laws ((TLent.the_type).to x)
 
-abbrev pub lent-vals : Lent → List Val
-lent-vals x = lent-mach x ∷ []
+abbrev pub lent_vals : Lent → List Val
+lent_vals x = lent_mach x ∷ []
 
-pub lent-tells : Tells LentR (Is LentR) lent-vals
-lent-tells = LL.tells TLent.the_type TLent'.the_laws
+pub lent_tells : Tells LentR (Is LentR) lent_vals
+lent_tells = LL.tells TLent.the_type TLent'.the_laws
 
 module _ {M : Type 1} {𝓤 : Ura M} (𝓛 : Logic 𝓤) where
-  pub lent-makes : Makes 𝓛 LentR (Is LentR)
-  lent-makes = LL.makes TLent.the_type TLent'.the_plain 𝓛
+  pub lent_makes : Makes 𝓛 LentR (Is LentR)
+  lent_makes = LL.makes TLent.the_type TLent'.the_plain 𝓛
 
-  pub lent-typed : (x : Lent) (w : Val) → Is LentR x (w ∷ []) → Holds (has_ty TLent'.mir w) × WT w
-  lent-typed x w g = ((LL.lawful TLent.the_type TLent'.the_laws 𝓛).typed x (w ∷ []) g).0
+  pub lent_typed : (x : Lent) (w : Val) → Is LentR x (w ∷ []) → Holds (has_ty TLent'.mir w) × WT w
+  lent_typed x w g = ((LL.lawful TLent.the_type TLent'.the_laws 𝓛).typed x (w ∷ []) g).0

@@ -4,16 +4,16 @@ use Rattle.std.specs.Prelude.{ℕ, ◌≡◌, List, [], ◌∷◌, map, Bool, fa
 use Rattle.base.specs.Lists.{All, keep}
 use Rattle.wire.specs.Frame.{kind_of}
 use Rattle.annex.specs.declared.Step.{Step}
-use Rattle.annex.specs.Stepped.{lastTime, steppedFigures}
-use Rattle.used_numbers.specs.Marks.{markedWith}
+use Rattle.annex.specs.Stepped.{last_time, stepped_figures}
+use Rattle.used_numbers.specs.Marks.{marked_with}
 use Rattle.fields.specs.declared.Head.{Head}
-use Rattle.fields.specs.Fields.{headIn, stepsIn}
-use Rattle.codec.specs.Codec.{eventRecord}
+use Rattle.fields.specs.Fields.{head_in, steps_in}
+use Rattle.codec.specs.Codec.{event_record}
 use Rattle.ledger.specs.declared.Ledger.{Ledger}
 use Rattle.slot.specs.declared.Slot.{Slot}
-use Rattle.slot.specs.Slot.{freeSlot}
-use Rattle.desk_scan.specs.Desk.{emptyDesk, number_at, number_in}
-use Rattle.desk_rules.specs.Rules.{stepIn}
+use Rattle.slot.specs.Slot.{free_slot}
+use Rattle.desk_scan.specs.Desk.{empty_desk, number_at, number_in}
+use Rattle.desk_rules.specs.Rules.{step_in}
 use Rattle.desk_days.specs.Day.{State, Arrival, message, booked}
 
 -- what an accepted arrival does: it opens an outage, is a step of one or closes one, or is a record that the book entry takes
@@ -24,11 +24,11 @@ pub data Deed : Type 0 where
   takes : List ℕ → Deed
 
 -- "16 open", "17 step", "18 close": an accepted message is of one of these kinds
-abbrev pub messageIn : ℕ → List ℕ → Deed
-messageIn kind s = cond (eqb kind 16) (opens (headIn s)) (cond (eqb kind 17) (steps (number_in s) (stepIn s)) (closes (number_in s)))
+abbrev pub message_in : ℕ → List ℕ → Deed
+message_in kind s = cond (eqb kind 16) (opens (head_in s)) (cond (eqb kind 17) (steps (number_in s) (step_in s)) (closes (number_in s)))
 
 abbrev pub deed_of : Arrival → Deed
-deed_of (message s) = messageIn (kind_of s) s
+deed_of (message s) = message_in (kind_of s) s
 deed_of (booked s) = takes s
 
 -- a complete stepped event
@@ -37,28 +37,28 @@ pub record SteppedEvent : Type 0 where
   pub steps : List Step
 
 -- what a record of kind 3 tells
-abbrev pub steppedEventIn : List ℕ → SteppedEvent
-steppedEventIn s = record { head = headIn s; steps = stepsIn s }
+abbrev pub stepped_event_in : List ℕ → SteppedEvent
+stepped_event_in s = record { head = head_in s; steps = steps_in s }
 
 -- what was said when v was opened
-abbrev pub headFor : ℕ → List Deed → Head
-headFor v [] = freeSlot.head
-headFor v (opens h ∷ ds) = cond (eqb h.number v) h (headFor v ds)
-headFor v (steps w st ∷ ds) = headFor v ds
-headFor v (closes w ∷ ds) = headFor v ds
-headFor v (takes s ∷ ds) = headFor v ds
+abbrev pub head_for : ℕ → List Deed → Head
+head_for v [] = free_slot.head
+head_for v (opens h ∷ ds) = cond (eqb h.number v) h (head_for v ds)
+head_for v (steps w st ∷ ds) = head_for v ds
+head_for v (closes w ∷ ds) = head_for v ds
+head_for v (takes s ∷ ds) = head_for v ds
 
 -- the steps of v, in their order
-abbrev pub stepsFor : ℕ → List Deed → List Step
-stepsFor v [] = []
-stepsFor v (opens h ∷ ds) = stepsFor v ds
-stepsFor v (steps w st ∷ ds) = cond (eqb w v) (st ∷ stepsFor v ds) (stepsFor v ds)
-stepsFor v (closes w ∷ ds) = stepsFor v ds
-stepsFor v (takes s ∷ ds) = stepsFor v ds
+abbrev pub steps_for : ℕ → List Deed → List Step
+steps_for v [] = []
+steps_for v (opens h ∷ ds) = steps_for v ds
+steps_for v (steps w st ∷ ds) = cond (eqb w v) (st ∷ steps_for v ds) (steps_for v ds)
+steps_for v (closes w ∷ ds) = steps_for v ds
+steps_for v (takes s ∷ ds) = steps_for v ds
 
 -- the outage numbered v, as a complete event
-abbrev pub eventFor : List Deed → ℕ → SteppedEvent
-eventFor ds v = record { head = headFor v ds; steps = stepsFor v ds }
+abbrev pub event_for : List Deed → ℕ → SteppedEvent
+event_for ds v = record { head = head_for v ds; steps = steps_for v ds }
 
 -- the numbers opened, and the numbers closed, in their order
 abbrev pub openings : List Deed → List ℕ
@@ -86,49 +86,49 @@ abbrev pub about : ℕ → List Deed → List Deed
 about v ds = keep (names v) ds
 
 -- what they are while it is open: its open and its steps
-abbrev pub openDeeds : ℕ → SteppedEvent → List Deed
-openDeeds v e = opens e.head ∷ map (λ st. steps v st) e.steps
+abbrev pub open_deeds : ℕ → SteppedEvent → List Deed
+open_deeds v e = opens e.head ∷ map (λ st. steps v st) e.steps
 
 -- 3 stepped event: number 2, type 1, voltage 1, cause 1, T0, step count 1, then per step: time, 3 counts; 14 + 16 x steps
-abbrev pub recordOf : SteppedEvent → List ℕ
-recordOf e = eventRecord e.head e.steps
+abbrev pub record_of : SteppedEvent → List ℕ
+record_of e = event_record e.head e.steps
 
 -- "the closed events as kind 3 records in the order of closing"
 abbrev pub closed_in : List Deed → List (List ℕ)
-closed_in ds = map (λ v. recordOf (eventFor ds v)) (closings ds)
+closed_in ds = map (λ v. record_of (event_for ds v)) (closings ds)
 
-abbrev pub closedRecords : List Arrival → List (List ℕ)
-closedRecords as' = closed_in (map deed_of as')
+abbrev pub closed_records : List Arrival → List (List ℕ)
+closed_records as' = closed_in (map deed_of as')
 
 -- the same where the book entry takes records too, each as it is and in its place among the closed events
-abbrev pub completeIn : List Deed → List Deed → List (List ℕ)
-completeIn all [] = []
-completeIn all (opens h ∷ ds) = completeIn all ds
-completeIn all (steps w st ∷ ds) = completeIn all ds
-completeIn all (closes w ∷ ds) = recordOf (eventFor all w) ∷ completeIn all ds
-completeIn all (takes s ∷ ds) = s ∷ completeIn all ds
+abbrev pub complete_in : List Deed → List Deed → List (List ℕ)
+complete_in all [] = []
+complete_in all (opens h ∷ ds) = complete_in all ds
+complete_in all (steps w st ∷ ds) = complete_in all ds
+complete_in all (closes w ∷ ds) = record_of (event_for all w) ∷ complete_in all ds
+complete_in all (takes s ∷ ds) = s ∷ complete_in all ds
 
-abbrev pub completeRecords : List Arrival → List (List ℕ)
-completeRecords as' = completeIn (map deed_of as') (map deed_of as')
+abbrev pub complete_records : List Arrival → List (List ℕ)
+complete_records as' = complete_in (map deed_of as') (map deed_of as')
 
 -- the slot that holds an event whose steps have all arrived
-abbrev pub slotHolding : SteppedEvent → Slot
-slotHolding e =
+abbrev pub slot_holding : SteppedEvent → Slot
+slot_holding e =
     record {
       head = e.head;
-      last = lastTime e.head.t0 e.steps;
+      last = last_time e.head.t0 e.steps;
       steps = length e.steps;
-      figures = steppedFigures e.head.t0 e.steps;
+      figures = stepped_figures e.head.t0 e.steps;
     }
 
 -- a map in which further numbers are marked
-abbrev pub markedAll : List ℕ → List ℕ → List ℕ
-markedAll m [] = m
-markedAll m (v ∷ vs) = markedWith (markedAll m vs) v
+abbrev pub marked_all : List ℕ → List ℕ → List ℕ
+marked_all m [] = m
+marked_all m (v ∷ vs) = marked_with (marked_all m vs) v
 
 -- "an empty desk with a given ledger and map"
-abbrev pub emptyDay : Ledger → List ℕ → State
-emptyDay l m = record { ledger = l; map = m; desk = emptyDesk }
+abbrev pub empty_day : Ledger → List ℕ → State
+empty_day l m = record { ledger = l; map = m; desk = empty_desk }
 
 -- "leaves nothing open"
 abbrev pub NothingOpen : List Slot → Type 0

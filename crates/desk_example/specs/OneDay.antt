@@ -4,14 +4,14 @@ use Rattle.std.specs.Prelude.{ℕ, List, [], ◌∷◌, ◌++◌, map, take, dro
 use Rattle.annex.specs.declared.Step.{Step}
 use Rattle.fields.specs.declared.Head.{Head}
 use Rattle.ledger.specs.declared.Ledger.{Ledger}
-use Rattle.ledger.specs.Ledger.{emptyLedger, cell_of}
-use Rattle.ledger.specs.Take.{ledgerAfter}
-use Rattle.law_sums.specs.Accepted.{zeroMap}
-use Rattle.desk_days.specs.Day.{State, Arrival, message, booked, afterAll}
-use Rattle.desk_days.specs.Story.{emptyDay}
+use Rattle.ledger.specs.Ledger.{empty_ledger, cell_of}
+use Rattle.ledger.specs.Take.{ledger_after}
+use Rattle.law_sums.specs.Accepted.{zero_map}
+use Rattle.desk_days.specs.Day.{State, Arrival, message, booked, after_all}
+use Rattle.desk_days.specs.Story.{empty_day}
 use Rattle.worked.specs.Bytes.{three, times, simple, codes}
 use Rattle.worked.specs.Worked.{sheet105}
-use Rattle.desk_runs.specs.Messages.{openOf, step_of, closeOf}
+use Rattle.desk_runs.specs.Messages.{open_of, step_of, close_of}
 
 -- a head, and a step with its three counts
 abbrev head : ℕ → ℕ → ℕ → ℕ → ℕ → Head
@@ -22,30 +22,30 @@ off time nn vn = record { time = time; counts = three nn vn 0 }
 
 -- the day begins with an empty desk, a ledger that has the sheet alone (2009, N = 450000, 1000, 0), and a map of zeros
 abbrev pub ledger : Ledger
-ledger = ledgerAfter emptyLedger zeroMap sheet105
+ledger = ledger_after empty_ledger zero_map sheet105
 
 abbrev pub messages : List (List ℕ)
 messages =
     -- 5 is opened as a VN event at 0, and has its step 1
-    openOf (head 5 11 5 0 0) ∷
+    open_of (head 5 11 5 0 0) ∷
     step_of 5 1 (off 84 62 0) ∷
     -- 65,535 is opened on NN at 500, and has its step 1
-    openOf (head 65535 12 1 39 500) ∷
+    open_of (head 65535 12 1 39 500) ∷
     step_of 65535 1 (off 510 7 0) ∷
     -- closed by another count
-    closeOf 65535 2 ∷
+    close_of 65535 2 ∷
     -- step 2 of 5
     step_of 5 2 (off 87 2418 14) ∷
     -- 65,535 is closed
-    closeOf 65535 1 ∷
+    close_of 65535 1 ∷
     -- a step of it that comes late
     step_of 65535 2 (off 600 1 0) ∷
     -- 300 is opened, in the slot that is free again
-    openOf (head 300 2 1 0 1000) ∷
+    open_of (head 300 2 1 0 1000) ∷
     -- a step of 5 with a time before the last one
     step_of 5 3 (off 80 1 0) ∷
     -- 5 is opened again
-    openOf (head 5 11 5 0 0) ∷
+    open_of (head 5 11 5 0 0) ∷
     -- step 3 of 5
     step_of 5 3 (off 167 62 0) ∷
     -- step 1 of 300, after 3 minutes
@@ -53,26 +53,26 @@ messages =
     -- step 4 of 5
     step_of 5 4 (off 174 2418 14) ∷
     -- 300 is closed, and short
-    closeOf 300 1 ∷
+    close_of 300 1 ∷
     -- 5 is closed
-    closeOf 5 4 ∷
+    close_of 5 4 ∷
     -- no record
     (1 ∷ 2 ∷ 3 ∷ []) ∷
     []
 
 -- what is to be told of each outage, as records of kind 3, byte by byte
-abbrev pub closed-65535 : List ℕ
-closed-65535 =
+abbrev pub closed_65535 : List ℕ
+closed_65535 =
     30 ∷ 0 ∷ 3 ∷ 0 ∷ 255 ∷ 255 ∷ 12 ∷ 1 ∷ 39 ∷ 244 ∷ 1 ∷ 0 ∷ 0 ∷ 1 ∷
     254 ∷ 1 ∷ 0 ∷ 0 ∷ 7 ∷ 0 ∷ 0 ∷ 0 ∷ 0 ∷ 0 ∷ 0 ∷ 0 ∷ 0 ∷ 0 ∷ 0 ∷ 0 ∷ []
 
-abbrev pub closed-300 : List ℕ
-closed-300 =
+abbrev pub closed_300 : List ℕ
+closed_300 =
     30 ∷ 0 ∷ 3 ∷ 0 ∷ 44 ∷ 1 ∷ 2 ∷ 1 ∷ 0 ∷ 232 ∷ 3 ∷ 0 ∷ 0 ∷ 1 ∷
     235 ∷ 3 ∷ 0 ∷ 0 ∷ 9 ∷ 0 ∷ 0 ∷ 0 ∷ 0 ∷ 0 ∷ 0 ∷ 0 ∷ 0 ∷ 0 ∷ 0 ∷ 0 ∷ []
 
-abbrev pub closed-5 : List ℕ
-closed-5 =
+abbrev pub closed_5 : List ℕ
+closed_5 =
     78 ∷ 0 ∷ 3 ∷ 0 ∷ 5 ∷ 0 ∷ 11 ∷ 5 ∷ 0 ∷ 0 ∷ 0 ∷ 0 ∷ 0 ∷ 4 ∷
     84 ∷ 0 ∷ 0 ∷ 0 ∷ 62 ∷ 0 ∷ 0 ∷ 0 ∷ 0 ∷ 0 ∷ 0 ∷ 0 ∷ 0 ∷ 0 ∷ 0 ∷ 0 ∷
     87 ∷ 0 ∷ 0 ∷ 0 ∷ 114 ∷ 9 ∷ 0 ∷ 0 ∷ 14 ∷ 0 ∷ 0 ∷ 0 ∷ 0 ∷ 0 ∷ 0 ∷ 0 ∷
@@ -80,10 +80,10 @@ closed-5 =
     174 ∷ 0 ∷ 0 ∷ 0 ∷ 114 ∷ 9 ∷ 0 ∷ 0 ∷ 14 ∷ 0 ∷ 0 ∷ 0 ∷ 0 ∷ 0 ∷ 0 ∷ 0 ∷ []
 
 abbrev pub morning : State
-morning = emptyDay ledger zeroMap
+morning = empty_day ledger zero_map
 
 abbrev pub evening : State
-evening = afterAll morning (map message messages)
+evening = after_all morning (map message messages)
 
 -- events and short events; and customers and halves of type 11 on NN and VN, of type 12 and of type 2 on NN
 abbrev cell : Ledger → ℕ → ℕ → List ℕ
@@ -108,11 +108,11 @@ arrivals =
     booked sheet105 ∷
     (map message (take 9 messages) ++
     (booked simple12 ∷
-    booked closed-300 ∷
+    booked closed_300 ∷
     map message (drop 9 messages)))
 
 abbrev pub night : State
-night = afterAll (emptyDay emptyLedger zeroMap) arrivals
+night = after_all (empty_day empty_ledger zero_map) arrivals
 
 -- ---- a full desk
 
@@ -122,10 +122,10 @@ numbers =
     17 ∷ 18 ∷ 19 ∷ 20 ∷ 21 ∷ 22 ∷ 23 ∷ 24 ∷ 25 ∷ 26 ∷ 27 ∷ 28 ∷ 29 ∷ 30 ∷ 31 ∷ 32 ∷ []
 
 abbrev opening : ℕ → List ℕ
-opening v = openOf (head v 11 1 0 0)
+opening v = open_of (head v 11 1 0 0)
 
 -- 32 outages are opened, and 33 finds no slot; each has a step and is closed, and 33 is opened in the first slot
 abbrev pub crowd : List (List ℕ)
 crowd =
     map opening numbers ++
-    (opening 33 ∷ (map (λ v. step_of v 1 (off 4 v 0)) numbers ++ (map (λ v. closeOf v 1) numbers ++ opening 33 ∷ [])))
+    (opening 33 ∷ (map (λ v. step_of v 1 (off 4 v 0)) numbers ++ (map (λ v. close_of v 1) numbers ++ opening 33 ∷ [])))

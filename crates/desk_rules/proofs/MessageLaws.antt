@@ -14,175 +14,175 @@ use Rattle.base.specs.First.{NoRule, Clear, Foremost, Rising}
 use Rattle.base.proofs.FirstLaws.{clear, clear_at, then}
 use Rattle.base.proofs.TestLaws.{or_left, or_right, one_of_three}
 use Rattle.wire.specs.Frame.{framed, kind_of}
-use Rattle.codes.specs.Ranges.{mostEvents}
-use Rattle.annex.specs.Times.{minutesIn}
-use Rattle.used_numbers.specs.Marks.{marked, markedWith}
-use Rattle.used_numbers.proofs.MarkLaws.{markedWith-zero}
-use Rattle.fields.specs.Fields.{headIn}
-use Rattle.fields.specs.Tests.{headListed}
+use Rattle.codes.specs.Ranges.{most_events}
+use Rattle.annex.specs.Times.{minutes_in}
+use Rattle.used_numbers.specs.Marks.{marked, marked_with}
+use Rattle.used_numbers.proofs.MarkLaws.{marked_with_zero}
+use Rattle.fields.specs.Fields.{head_in}
+use Rattle.fields.specs.Tests.{head_listed}
 use Rattle.ledger.specs.declared.Ledger.{Ledger}
 use Rattle.ledger.specs.Take.{unsound}
 use Rattle.slot.specs.declared.Slot.{Slot}
-use Rattle.slot.specs.Slot.{freeSlot, openedBy, steppedBy}
-use Rattle.desk_scan.specs.Desk.{slotCount, deskSound, place_of, slot_of, number_in}
+use Rattle.slot.specs.Slot.{free_slot, opened_by, stepped_by}
+use Rattle.desk_scan.specs.Desk.{slot_count, desk_sound, place_of, slot_of, number_in}
 use Rattle.desk_rules.specs.declared.Plan.{Plan}
-use Rattle.desk_rules.specs.Rules.{lookAt, ordinalIn, stepIn, byMessage, kindNotTaken, rules, rulesAt}
+use Rattle.desk_rules.specs.Rules.{look_at, ordinal_in, step_in, by_message, kind_not_taken, rules, rules_at}
 use Rattle.desk_rules.specs.Right.{OpenRight, StepRight, CloseRight}
-use Rattle.desk_rules.specs.Plan.{refusedPlan, ledgerClosed, acceptedPlan, lookAnswer}
-use Rattle.desk_rules.specs.Serve.{messageAnswer, planned, ledgerServed, mapServed, deskServed}
-use Rattle.desk_rules.proofs.PlanLaws.{plan-refused, plan-accepted}
+use Rattle.desk_rules.specs.Plan.{refused_plan, ledger_closed, accepted_plan, look_answer}
+use Rattle.desk_rules.specs.Serve.{message_answer, planned, ledger_served, map_served, desk_served}
+use Rattle.desk_rules.proofs.PlanLaws.{plan_refused, plan_accepted}
 
 -- ledger, map and desk after an accepted open (kind 16)
 pub record Opened (l : Ledger) (m : List ℕ) (d : List Slot) (s : List ℕ) : Type 0 where
-  pub ledger : ledgerServed l m d s ≡ l
-  pub map : mapServed l m d s ≡ markedWith m (number_in s)
-  pub desk : deskServed l m d s ≡ set d (place_of 0 d) (openedBy (headIn s))
+  pub ledger : ledger_served l m d s ≡ l
+  pub map : map_served l m d s ≡ marked_with m (number_in s)
+  pub desk : desk_served l m d s ≡ set d (place_of 0 d) (opened_by (head_in s))
 
 -- after an accepted step (kind 17)
 pub record Stepped (l : Ledger) (m : List ℕ) (d : List Slot) (s : List ℕ) : Type 0 where
-  pub ledger : ledgerServed l m d s ≡ l
-  pub map : mapServed l m d s ≡ m
-  pub desk : deskServed l m d s ≡ set d (place_of (number_in s) d) (steppedBy (slot_of (number_in s) d) (stepIn s))
+  pub ledger : ledger_served l m d s ≡ l
+  pub map : map_served l m d s ≡ m
+  pub desk : desk_served l m d s ≡ set d (place_of (number_in s) d) (stepped_by (slot_of (number_in s) d) (step_in s))
 
 -- after an accepted close (kind 18)
 pub record Closed (l : Ledger) (m : List ℕ) (d : List Slot) (s : List ℕ) : Type 0 where
-  pub ledger : ledgerServed l m d s ≡ ledgerClosed (lookAt d s) l
-  pub map : mapServed l m d s ≡ m
-  pub desk : deskServed l m d s ≡ set d (place_of (number_in s) d) freeSlot
+  pub ledger : ledger_served l m d s ≡ ledger_closed (look_at d s) l
+  pub map : map_served l m d s ≡ m
+  pub desk : desk_served l m d s ≡ set d (place_of (number_in s) d) free_slot
 
 -- the kinds that are taken
-pub kind-taken : (kind : ℕ) → kindNotTaken kind ≡ false → (kind ≡ 16) ⊎ ((kind ≡ 17) ⊎ (kind ≡ 18))
-kind-taken kind e = one_of_three kind 16 17 18 (not-false (byMessage kind true true true) e)
+pub kind_taken : (kind : ℕ) → kind_not_taken kind ≡ false → (kind ≡ 16) ⊎ ((kind ≡ 17) ⊎ (kind ≡ 18))
+kind_taken kind e = one_of_three kind 16 17 18 (not-false (by_message kind true true true) e)
 
 module _ (l : Ledger) (m : List ℕ) (d : List Slot) (s : List ℕ) where
   -- the numbers of the rules rise, and all are above 0
-  pub rules-rise : Rising 0 (rules (lookAt d s) l m s)
-  rules-rise = (tt, (tt, (tt, (tt, (tt, (tt, (tt, (tt, (tt, (tt, (tt, (tt, (tt, (tt, tt))))))))))))))
+  pub rules_rise : Rising 0 (rules (look_at d s) l m s)
+  rules_rise = (tt, (tt, (tt, (tt, (tt, (tt, (tt, (tt, (tt, (tt, (tt, (tt, (tt, (tt, tt))))))))))))))
 
   -- what it does, by its plan
-  does : (p : Plan) → planned l m d s ≡ p → (ledgerServed l m d s ≡ p.served.ledger) × (mapServed l m d s ≡ markedWith m p.number) × (deskServed l m d s ≡ set d p.at p.slot)
-  unfolding ledgerServed mapServed deskServed
-  does p e = (ap (λ (p : Plan). p.served.ledger) e, ap (λ (p : Plan). markedWith m p.number) e, ap (λ (p : Plan). set d p.at p.slot) e)
+  does : (p : Plan) → planned l m d s ≡ p → (ledger_served l m d s ≡ p.served.ledger) × (map_served l m d s ≡ marked_with m p.number) × (desk_served l m d s ≡ set d p.at p.slot)
+  unfolding ledger_served map_served desk_served
+  does p e = (ap (λ (p : Plan). p.served.ledger) e, ap (λ (p : Plan). marked_with m p.number) e, ap (λ (p : Plan). set d p.at p.slot) e)
 
   -- a refused message changes nothing
-  pub refused-same : (messageAnswer l m d s ≡ 0 → ⊥) → (ledgerServed l m d s ≡ l) × (mapServed l m d s ≡ m) × (deskServed l m d s ≡ d)
-  unfolding messageAnswer
-  refused-same z =
-      let e = does (refusedPlan l (length d) (messageAnswer l m d s)) (plan-refused (lookAt d s) (length d) l m s z) in
-      (e.0, e.1 ∙ markedWith-zero m, e.2 ∙ set_out d (length d) freeSlot (le_refl (length d)))
+  pub refused_same : (message_answer l m d s ≡ 0 → ⊥) → (ledger_served l m d s ≡ l) × (map_served l m d s ≡ m) × (desk_served l m d s ≡ d)
+  unfolding message_answer
+  refused_same z =
+      let e = does (refused_plan l (length d) (message_answer l m d s)) (plan_refused (look_at d s) (length d) l m s z) in
+      (e.0, e.1 ∙ marked_with_zero m, e.2 ∙ set_out d (length d) free_slot (le_refl (length d)))
 
   -- no rule applies to an accepted message
-  pub accepted-clear : messageAnswer l m d s ≡ 0 → Clear (rules (lookAt d s) l m s)
-  unfolding messageAnswer lookAnswer
-  accepted-clear a = clear 0 (rules (lookAt d s) l m s) rules-rise a
+  pub accepted_clear : message_answer l m d s ≡ 0 → Clear (rules (look_at d s) l m s)
+  unfolding message_answer look_answer
+  accepted_clear a = clear 0 (rules (look_at d s) l m s) rules_rise a
 
   -- none of any number does
-  accepted-rules : messageAnswer l m d s ≡ 0 → NoRule (rules (lookAt d s) l m s)
-  accepted-rules a = clear_at (rules (lookAt d s) l m s) (accepted-clear a)
+  accepted_rules : message_answer l m d s ≡ 0 → NoRule (rules (look_at d s) l m s)
+  accepted_rules a = clear_at (rules (look_at d s) l m s) (accepted_clear a)
 
   -- a rule that applies while none before it does is the answer
-  pub answered : (n : ℕ) → Foremost n (rules (lookAt d s) l m s) → messageAnswer l m d s ≡ n
-  unfolding messageAnswer lookAnswer
-  answered n f = then n (rules (lookAt d s) l m s) f
+  pub answered : (n : ℕ) → Foremost n (rules (look_at d s) l m s) → message_answer l m d s ≡ n
+  unfolding message_answer look_answer
+  answered n f = then n (rules (look_at d s) l m s) f
 
   -- an accepted message is an open, a step or a close
-  pub accepted-kind : messageAnswer l m d s ≡ 0 → (kind_of s ≡ 16) ⊎ ((kind_of s ≡ 17) ⊎ (kind_of s ≡ 18))
-  accepted-kind a = kind-taken (kind_of s) (accepted-rules a 3)
+  pub accepted_kind : message_answer l m d s ≡ 0 → (kind_of s ≡ 16) ⊎ ((kind_of s ≡ 17) ⊎ (kind_of s ≡ 18))
+  accepted_kind a = kind_taken (kind_of s) (accepted_rules a 3)
 
   -- the rules of an accepted message, read at its kind
-  rules-at : (kind : ℕ) → messageAnswer l m d s ≡ 0 → kind_of s ≡ kind → NoRule (rulesAt kind (lookAt d s) l m s)
-  rules-at kind a k = subst (λ kind. NoRule (rulesAt kind (lookAt d s) l m s)) k (clear_at (rulesAt (kind_of s) (lookAt d s) l m s) (accepted-clear a).1.1)
+  rules_at_lem : (kind : ℕ) → message_answer l m d s ≡ 0 → kind_of s ≡ kind → NoRule (rules_at kind (look_at d s) l m s)
+  rules_at_lem kind a k = subst (λ kind. NoRule (rules_at kind (look_at d s) l m s)) k (clear_at (rules_at (kind_of s) (look_at d s) l m s) (accepted_clear a).1.1)
 
   -- what it does, read at its kind
-  accepted-does :
+  accepted_does :
       (kind : ℕ) (p : Plan) →
-      acceptedPlan kind (lookAt d s) l s ≡ p →
-      messageAnswer l m d s ≡ 0 →
+      accepted_plan kind (look_at d s) l s ≡ p →
+      message_answer l m d s ≡ 0 →
       kind_of s ≡ kind →
-      (ledgerServed l m d s ≡ p.served.ledger) × (mapServed l m d s ≡ markedWith m p.number) × (deskServed l m d s ≡ set d p.at p.slot)
-  unfolding messageAnswer
-  accepted-does kind p e a k = does p (plan-accepted (lookAt d s) (length d) l m s a ∙ ap (λ kind. acceptedPlan kind (lookAt d s) l s) k ∙ e)
+      (ledger_served l m d s ≡ p.served.ledger) × (map_served l m d s ≡ marked_with m p.number) × (desk_served l m d s ≡ set d p.at p.slot)
+  unfolding message_answer
+  accepted_does kind p e a k = does p (plan_accepted (look_at d s) (length d) l m s a ∙ ap (λ kind. accepted_plan kind (look_at d s) l s) k ∙ e)
 
   -- what every accepted message tells
-  pub accepted-ledger-sound : messageAnswer l m d s ≡ 0 → unsound l m ≡ false
-  accepted-ledger-sound a = or_left (unsound l m) (not (deskSound d)) (accepted-rules a 1)
+  pub accepted_ledger_sound : message_answer l m d s ≡ 0 → unsound l m ≡ false
+  accepted_ledger_sound a = or_left (unsound l m) (not (desk_sound d)) (accepted_rules a 1)
 
-  pub accepted-desk-sound : messageAnswer l m d s ≡ 0 → deskSound d ≡ true
-  accepted-desk-sound a = not-false (deskSound d) (or_right (unsound l m) (not (deskSound d)) (accepted-rules a 1))
+  pub accepted_desk_sound : message_answer l m d s ≡ 0 → desk_sound d ≡ true
+  accepted_desk_sound a = not-false (desk_sound d) (or_right (unsound l m) (not (desk_sound d)) (accepted_rules a 1))
 
-  pub accepted-whole : messageAnswer l m d s ≡ 0 → framed s ≡ true
-  accepted-whole a = not-false (framed s) (accepted-rules a 2)
+  pub accepted_whole : message_answer l m d s ≡ 0 → framed s ≡ true
+  accepted_whole a = not-false (framed s) (accepted_rules a 2)
 
   -- of an accepted open, step or close all that is asked of its kind holds
-  pub open-right : messageAnswer l m d s ≡ 0 → kind_of s ≡ 16 → OpenRight l m d s
-  open-right a k =
-      let c = rules-at 16 a k in
-      let used : (marked m (number_in s) || ltb (place_of (number_in s) d) slotCount) ≡ false = c 14 in
+  pub open_right : message_answer l m d s ≡ 0 → kind_of s ≡ 16 → OpenRight l m d s
+  open_right a k =
+      let c = rules_at_lem 16 a k in
+      let used : (marked m (number_in s) || ltb (place_of (number_in s) d) slot_count) ≡ false = c 14 in
       record {
-        ledger-sound = accepted-ledger-sound a;
-        desk-sound = accepted-desk-sound a;
-        whole = accepted-whole a;
+        ledger_sound = accepted_ledger_sound a;
+        desk_sound_lem = accepted_desk_sound a;
+        whole = accepted_whole a;
         long = eqb-true (length s) 13 (not-false (eqb (length s) 13) (c 4));
         sheet = not-false l.sheet.there (c 5);
-        head-listed = not-false (headListed (headIn s)) (c 7);
-        timely = leb-false (minutesIn l.sheet.year) (headIn s).t0 (c 10);
-        unmarked = or_left (marked m (number_in s)) (ltb (place_of (number_in s) d) slotCount) used;
-        not-open = ltb-false (place_of (number_in s) d) slotCount (or_right (marked m (number_in s)) (ltb (place_of (number_in s) d) slotCount) used);
-        room = leb-false slotCount (place_of 0 d) (c 16);
+        head_listed_lem = not-false (head_listed (head_in s)) (c 7);
+        timely = leb-false (minutes_in l.sheet.year) (head_in s).t0 (c 10);
+        unmarked = or_left (marked m (number_in s)) (ltb (place_of (number_in s) d) slot_count) used;
+        not_open_lem = ltb-false (place_of (number_in s) d) slot_count (or_right (marked m (number_in s)) (ltb (place_of (number_in s) d) slot_count) used);
+        room = leb-false slot_count (place_of 0 d) (c 16);
       }
 
-  pub step_right : messageAnswer l m d s ≡ 0 → kind_of s ≡ 17 → StepRight l m d s
+  pub step_right : message_answer l m d s ≡ 0 → kind_of s ≡ 17 → StepRight l m d s
   step_right a k =
-      let c = rules-at 17 a k in
-      let next : Bool = eqb (ordinalIn s) ((slot_of (number_in s) d).steps + 1) in
-      let many : Bool = ltb 64 (ordinalIn s) in
+      let c = rules_at_lem 17 a k in
+      let next : Bool = eqb (ordinal_in s) ((slot_of (number_in s) d).steps + 1) in
+      let many : Bool = ltb 64 (ordinal_in s) in
       let count : (not next || many) ≡ false = c 9 in
       record {
-        ledger-sound = accepted-ledger-sound a;
-        desk-sound = accepted-desk-sound a;
-        whole = accepted-whole a;
+        ledger_sound = accepted_ledger_sound a;
+        desk_sound_lem = accepted_desk_sound a;
+        whole = accepted_whole a;
         long = eqb-true (length s) 23 (not-false (eqb (length s) 23) (c 4));
         sheet = not-false l.sheet.there (c 5);
         numbered = eqb-false (number_in s) 0 (c 7);
-        found = leb-false slotCount (place_of (number_in s) d) (c 8);
-        ordinal = eqb-true (ordinalIn s) ((slot_of (number_in s) d).steps + 1) (not-false next (or_left (not next) many count));
-        few = ltb-false 64 (ordinalIn s) (or_right (not next) many count);
+        found = leb-false slot_count (place_of (number_in s) d) (c 8);
+        ordinal = eqb-true (ordinal_in s) ((slot_of (number_in s) d).steps + 1) (not-false next (or_left (not next) many count));
+        few = ltb-false 64 (ordinal_in s) (or_right (not next) many count);
         timely = c 10;
         within = c 11;
         level = c 12;
       }
 
-  pub close-right : messageAnswer l m d s ≡ 0 → kind_of s ≡ 18 → CloseRight l m d s
-  close-right a k =
-      let c = rules-at 18 a k in
-      let none : Bool = eqb (ordinalIn s) 0 in
-      let same : Bool = eqb (ordinalIn s) (slot_of (number_in s) d).steps in
+  pub close_right : message_answer l m d s ≡ 0 → kind_of s ≡ 18 → CloseRight l m d s
+  close_right a k =
+      let c = rules_at_lem 18 a k in
+      let none : Bool = eqb (ordinal_in s) 0 in
+      let same : Bool = eqb (ordinal_in s) (slot_of (number_in s) d).steps in
       let count : (none || not same) ≡ false = c 9 in
       record {
-        ledger-sound = accepted-ledger-sound a;
-        desk-sound = accepted-desk-sound a;
-        whole = accepted-whole a;
+        ledger_sound = accepted_ledger_sound a;
+        desk_sound_lem = accepted_desk_sound a;
+        whole = accepted_whole a;
         long = eqb-true (length s) 7 (not-false (eqb (length s) 7) (c 4));
         sheet = not-false l.sheet.there (c 5);
         numbered = eqb-false (number_in s) 0 (c 7);
-        found = leb-false slotCount (place_of (number_in s) d) (c 8);
-        some = eqb-false (ordinalIn s) 0 (or_left none (not same) count);
-        all = eqb-true (ordinalIn s) (slot_of (number_in s) d).steps (not-false same (or_right none (not same) count));
-        room = leb-false mostEvents l.events (c 15);
+        found = leb-false slot_count (place_of (number_in s) d) (c 8);
+        some = eqb-false (ordinal_in s) 0 (or_left none (not same) count);
+        all = eqb-true (ordinal_in s) (slot_of (number_in s) d).steps (not-false same (or_right none (not same) count));
+        room = leb-false most_events l.events (c 15);
       }
 
   -- and it does what its record above says
-  pub opened : messageAnswer l m d s ≡ 0 → kind_of s ≡ 16 → Opened l m d s
+  pub opened : message_answer l m d s ≡ 0 → kind_of s ≡ 16 → Opened l m d s
   opened a k =
-      let does = accepted-does 16 (acceptedPlan 16 (lookAt d s) l s) refl a k in
+      let does = accepted_does 16 (accepted_plan 16 (look_at d s) l s) refl a k in
       record { ledger = does.0; map = does.1; desk = does.2 }
 
-  pub stepped : messageAnswer l m d s ≡ 0 → kind_of s ≡ 17 → Stepped l m d s
+  pub stepped : message_answer l m d s ≡ 0 → kind_of s ≡ 17 → Stepped l m d s
   stepped a k =
-      let does = accepted-does 17 (acceptedPlan 17 (lookAt d s) l s) refl a k in
-      record { ledger = does.0; map = does.1 ∙ markedWith-zero m; desk = does.2 }
+      let does = accepted_does 17 (accepted_plan 17 (look_at d s) l s) refl a k in
+      record { ledger = does.0; map = does.1 ∙ marked_with_zero m; desk = does.2 }
 
-  pub closed : messageAnswer l m d s ≡ 0 → kind_of s ≡ 18 → Closed l m d s
+  pub closed : message_answer l m d s ≡ 0 → kind_of s ≡ 18 → Closed l m d s
   closed a k =
-      let does = accepted-does 18 (acceptedPlan 18 (lookAt d s) l s) refl a k in
-      record { ledger = does.0; map = does.1 ∙ markedWith-zero m; desk = does.2 }
+      let does = accepted_does 18 (accepted_plan 18 (look_at d s) l s) refl a k in
+      record { ledger = does.0; map = does.1 ∙ marked_with_zero m; desk = does.2 }

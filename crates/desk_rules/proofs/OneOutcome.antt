@@ -6,8 +6,8 @@ use Rattle.desk_rules.proofs.decide.Reads as decide
 use Rattle.desk_rules.proofs.served_by.Kinds as served-by-kinds
 use Rattle.desk_rules.proofs.served_by.Reads as served-by
 
-pub decide-one : OneOutcome decide-kinds.ps decide-kinds.r decide.Post
-decide-one κs a x y v w p q = (alike p q, refl)
+pub decide_one : OneOutcome decide-kinds.ps decide-kinds.r decide.Post
+decide_one κs a x y v w p q = (alike p q, refl)
 
-pub served-by-one : OneOutcome served-by-kinds.ps served-by-kinds.r served-by.Post
-served-by-one κs a x y v w p q = (alike p q, refl)
+pub served_by_one : OneOutcome served-by-kinds.ps served-by-kinds.r served-by.Post
+served_by_one κs a x y v w p q = (alike p q, refl)

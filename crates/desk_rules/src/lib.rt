@@ -1,10 +1,10 @@
 // What a desk message does: from what was found of the desk, the ledger, the map and the message's bytes to a plan. All rules of the desk stand
 // here, on values; carrying a plan out is the desk's own part.
 ghost use Rattle.std.specs.Prelude.{◌≡◌, true, cond};
-ghost use Rattle.ledger.specs.Sound.{soundLedger};
-ghost use Rattle.slot.specs.Sound.{slotSound};
-ghost use Rattle.desk_rules.specs.Inside.{lookBy, plan_at, planBy};
-ghost use Rattle.desk_rules.specs.Plan.{refusedPlan};
+ghost use Rattle.ledger.specs.Sound.{sound_ledger};
+ghost use Rattle.slot.specs.Sound.{slot_sound};
+ghost use Rattle.desk_rules.specs.Inside.{look_by, plan_at, plan_by};
+ghost use Rattle.desk_rules.specs.Plan.{refused_plan};
 
 use desk_scan::Roll;
 use ledger::Ledger;
@@ -28,7 +28,7 @@ pub struct Plan {
 
 // The plan of a refusal: nothing is put, nothing is marked, the ledger is handed back.
 fn refuse(ledger: Ledger, slots: usize, answer: u8) -> Plan
-    ensures { result ≡ refusedPlan ledger slots answer }
+    ensures { result ≡ refused_plan ledger slots answer }
 {
     Plan {
         served: Served { answer, ledger },
@@ -97,7 +97,7 @@ fn first_of_step(c10: bool, c11: bool, c12: bool) -> u8
 
 // A message of kind 16.
 fn plan_open(slots: usize, roll: Roll, slot: Slot, ledger: Ledger, map: &[u8], bytes: &[u8]) -> Plan
-    ensures { result ≡ plan_at 16 (lookBy slots roll slot bytes.now) slots ledger map.now bytes.now }
+    ensures { result ≡ plan_at 16 (look_by slots roll slot bytes.now) slots ledger map.now bytes.now }
 {
     if bytes.len() != 13 {
         return refuse(ledger, slots, 4);
@@ -125,8 +125,8 @@ fn plan_open(slots: usize, roll: Roll, slot: Slot, ledger: Ledger, map: &[u8], b
 
 // A message of kind 17.
 fn plan_step(slots: usize, roll: Roll, slot: Slot, ledger: Ledger, map: &[u8], bytes: &[u8]) -> Plan
-    requires { slotSound slot ≡ true }
-    ensures { result ≡ plan_at 17 (lookBy slots roll slot bytes.now) slots ledger map.now bytes.now }
+    requires { slot_sound slot ≡ true }
+    ensures { result ≡ plan_at 17 (look_by slots roll slot bytes.now) slots ledger map.now bytes.now }
 {
     if bytes.len() != 23 {
         return refuse(ledger, slots, 4);
@@ -171,8 +171,8 @@ fn plan_close(
     map: &[u8],
     bytes: &[u8],
 ) -> Plan
-    requires { (slotSound slot ≡ true) × (soundLedger ledger ≡ true) }
-    ensures { result ≡ plan_at 18 (lookBy slots roll slot bytes.now) slots ledger map.now bytes.now }
+    requires { (slot_sound slot ≡ true) × (sound_ledger ledger ≡ true) }
+    ensures { result ≡ plan_at 18 (look_by slots roll slot bytes.now) slots ledger map.now bytes.now }
 {
     if bytes.len() != 7 {
         return refuse(ledger, slots, 4);
@@ -222,7 +222,7 @@ pub fn decide(
     map: &[u8],
     bytes: &[u8],
 ) -> Plan
-    ensures { result ≡ planBy slots roll slot ledger map.now bytes.now }
+    ensures { result ≡ plan_by slots roll slot ledger map.now bytes.now }
 {
     let desk_sound = roll.holds(slots) & slot.sound();
     if (map.len() != ledger::MAP) | !ledger.sound() | !desk_sound {

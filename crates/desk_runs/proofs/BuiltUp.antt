@@ -13,99 +13,99 @@ use Rattle.base.specs.Lists.{All, Bytes}
 use Rattle.base.proofs.TestLaws.{or_left, or_right}
 use Rattle.base.proofs.FirstLaws.{clear_at}
 use Rattle.wire.specs.Frame.{framed, kind_of}
-use Rattle.codes.specs.Ranges.{mostEvents}
-use Rattle.annex.specs.Times.{minutesIn}
-use Rattle.used_numbers.specs.Marks.{marked, markedWith}
-use Rattle.fields.specs.Fields.{headIn, stepsFrom, stepsIn, stepCount}
-use Rattle.fields.specs.Tests.{headListed}
+use Rattle.codes.specs.Ranges.{most_events}
+use Rattle.annex.specs.Times.{minutes_in}
+use Rattle.used_numbers.specs.Marks.{marked, marked_with}
+use Rattle.fields.specs.Fields.{head_in, steps_from, steps_in, step_count}
+use Rattle.fields.specs.Tests.{head_listed}
 use Rattle.codec.specs.Fits.{StepInBytes}
-use Rattle.codec.proofs.EncodeLaws.{head-in-bytes, step-in-bytes, steps-many}
-use Rattle.limits.specs.Limits.{anyLate}
-use Rattle.record.specs.Rules.{rulesAt}
-use Rattle.record.specs.Verdict.{acceptedAt}
+use Rattle.codec.proofs.EncodeLaws.{head_in_bytes, step_in_bytes, steps_many}
+use Rattle.limits.specs.Limits.{any_late}
+use Rattle.record.specs.Rules.{rules_at}
+use Rattle.record.specs.Verdict.{accepted_at}
 use Rattle.ledger.specs.declared.Ledger.{Ledger}
 use Rattle.ledger.specs.Ledger.{added}
-use Rattle.ledger.specs.Take.{answer_of, ledgerAfter, mapAfter}
-use Rattle.ledger.proofs.TakeLaws.{accepted-sound}
+use Rattle.ledger.specs.Take.{answer_of, ledger_after, map_after}
+use Rattle.ledger.proofs.TakeLaws.{accepted_sound}
 use Rattle.desk_days.specs.Day.{message}
-use Rattle.desk_days.specs.Story.{steppedEventIn, recordOf, emptyDay}
-use Rattle.desk_days.proofs.EncodeLaws.{Passed, verdictFor}
-use Rattle.desk_days.proofs.EntryLaws.{entry-clear, entry-ledger}
-use Rattle.desk_days.proofs.AfterLaws.{event-taken}
-use Rattle.desk_runs.specs.Messages.{messagesOf}
+use Rattle.desk_days.specs.Story.{stepped_event_in, record_of, empty_day}
+use Rattle.desk_days.proofs.EncodeLaws.{Passed, verdict_for}
+use Rattle.desk_days.proofs.EntryLaws.{entry_clear, entry_ledger}
+use Rattle.desk_days.proofs.AfterLaws.{event_taken}
+use Rattle.desk_runs.specs.Messages.{messages_of}
 use Rattle.desk_runs.specs.Runs.{Leads}
-use Rattle.desk_runs.proofs.WrittenAgain.{written-again}
-use Rattle.desk_runs.proofs.EventLaws.{event-built-up}
+use Rattle.desk_runs.proofs.WrittenAgain.{written_again}
+use Rattle.desk_runs.proofs.EventLaws.{event_built_up}
 
-steps-in-bytes : (s : List ℕ) → Bytes s → (n at : ℕ) → All StepInBytes (stepsFrom s n at)
-steps-in-bytes s b zero at = tt
-steps-in-bytes s b (suc n) at = (step-in-bytes s b at, steps-in-bytes s b n (at + 16))
+steps_in_bytes : (s : List ℕ) → Bytes s → (n at : ℕ) → All StepInBytes (steps_from s n at)
+steps_in_bytes s b zero at = tt
+steps_in_bytes s b (suc n) at = (step_in_bytes s b at, steps_in_bytes s b n (at + 16))
 
 -- an accepted record of kind 3
 module _ (l : Ledger) (m s : List ℕ) (b : Bytes s) (k : kind_of s ≡ 3) (a : answer_of l m s ≡ 0) where
-  no-rule : NoRule (rulesAt 3 s l.sheet m l.events)
-  no-rule = subst (λ kind. NoRule (rulesAt kind s l.sheet m l.events)) k (clear_at (rulesAt (kind_of s) s l.sheet m l.events) (entry-clear l m s a).1.1)
+  no_rule : NoRule (rules_at 3 s l.sheet m l.events)
+  no_rule = subst (λ kind. NoRule (rules_at kind s l.sheet m l.events)) k (clear_at (rules_at (kind_of s) s l.sheet m l.events) (entry_clear l m s a).1.1)
 
   abbrev n : ℕ
-  n = stepCount s
+  n = step_count s
 
   abbrev short : Bool
   short = ltb (length s) 14
 
-  not-4 : (short || eqb n 0 || ltb 64 n || not (eqb (length s) (14 + 16 * n))) ≡ false
-  not-4 = no-rule 4
+  not_4 : (short || eqb n 0 || ltb 64 n || not (eqb (length s) (14 + 16 * n))) ≡ false
+  not_4 = no_rule 4
 
-  not-4-but : (short || eqb n 0 || ltb 64 n) ≡ false
-  not-4-but = or_left (short || eqb n 0 || ltb 64 n) (not (eqb (length s) (14 + 16 * n))) not-4
+  not_4_but : (short || eqb n 0 || ltb 64 n) ≡ false
+  not_4_but = or_left (short || eqb n 0 || ltb 64 n) (not (eqb (length s) (14 + 16 * n))) not_4
 
   -- its length is that of its steps, of which there are at most 64, and the event that it tells passes the book's rules
-  pub stepped-long : length s ≡ 14 + 16 * n
-  stepped-long = eqb-true _ _ (not-false _ (or_right (short || eqb n 0 || ltb 64 n) (not (eqb (length s) (14 + 16 * n))) not-4))
+  pub stepped_long : length s ≡ 14 + 16 * n
+  stepped_long = eqb-true _ _ (not-false _ (or_right (short || eqb n 0 || ltb 64 n) (not (eqb (length s) (14 + 16 * n))) not_4))
 
-  stepped-many : length (stepsIn s) ≡ n
-  stepped-many = steps-many s n 14
+  stepped_many : length (steps_in s) ≡ n
+  stepped_many = steps_many s n 14
 
-  pub stepped-few : length (stepsIn s) ≤ 64
-  stepped-few = subst (λ j. j ≤ 64) (sym stepped-many) (ltb-false 64 n (or_right (short || eqb n 0) (ltb 64 n) not-4-but))
+  pub stepped_few : length (steps_in s) ≤ 64
+  stepped_few = subst (λ j. j ≤ 64) (sym stepped_many) (ltb-false 64 n (or_right (short || eqb n 0) (ltb 64 n) not_4_but))
 
-  stepped-some : length (stepsIn s) ≢ 0
-  stepped-some z = eqb-false n 0 (or_right short (eqb n 0) (or_left (short || eqb n 0) (ltb 64 n) not-4-but)) (sym stepped-many ∙ z)
+  stepped_some : length (steps_in s) ≢ 0
+  stepped_some z = eqb-false n 0 (or_right short (eqb n 0) (or_left (short || eqb n 0) (ltb 64 n) not_4_but)) (sym stepped_many ∙ z)
 
-  pub stepped-passed : Passed l.sheet (steppedEventIn s)
-  stepped-passed =
-      let t0 : ℕ = (headIn s).t0 in
-      let year : ℕ = minutesIn l.sheet.year in
-      let timing : (leb year t0 || anyLate t0 (stepsIn s)) ≡ false = no-rule 10 in
+  pub stepped_passed : Passed l.sheet (stepped_event_in s)
+  stepped_passed =
+      let t0 : ℕ = (head_in s).t0 in
+      let year : ℕ = minutes_in l.sheet.year in
+      let timing : (leb year t0 || any_late t0 (steps_in s)) ≡ false = no_rule 10 in
       record {
-        there = not-false l.sheet.there (no-rule 5);
-        head-listed = not-false (headListed (headIn s)) (no-rule 7);
-        begins = leb-false year t0 (or_left (leb year t0) (anyLate t0 (stepsIn s)) timing);
-        timely = or_right (leb year t0) (anyLate t0 (stepsIn s)) timing;
-        within = no-rule 11;
-        level = no-rule 12;
-        few = stepped-few;
-        in_bytes = record { head = head-in-bytes s b; steps = steps-in-bytes s b n 14 };
+        there = not-false l.sheet.there (no_rule 5);
+        head_listed_lem = not-false (head_listed (head_in s)) (no_rule 7);
+        begins = leb-false year t0 (or_left (leb year t0) (any_late t0 (steps_in s)) timing);
+        timely = or_right (leb year t0) (any_late t0 (steps_in s)) timing;
+        within = no_rule 11;
+        level = no_rule 12;
+        few = stepped_few;
+        in_bytes = record { head = head_in_bytes s b; steps = steps_in_bytes s b n 14 };
       }
 
-  stepped-new : marked m (headIn s).number ≡ false
-  stepped-new = no-rule 14
+  stepped_new : marked m (head_in s).number ≡ false
+  stepped_new = no_rule 14
 
-  stepped-room : l.events < mostEvents
-  stepped-room = leb-false mostEvents l.events (no-rule 15)
+  stepped_room : l.events < most_events
+  stepped_room = leb-false most_events l.events (no_rule 15)
 
-  stepped-adds : added l (verdictFor l.sheet (steppedEventIn s)) ≡ ledgerAfter l m s
-  stepped-adds = sym (entry-ledger l m s a ∙ ap (λ kind. added l (acceptedAt kind s l.sheet)) k)
+  stepped_adds : added l (verdict_for l.sheet (stepped_event_in s)) ≡ ledger_after l m s
+  stepped_adds = sym (entry_ledger l m s a ∙ ap (λ kind. added l (accepted_at kind s l.sheet)) k)
 
-  stepped-marks : markedWith m (headIn s).number ≡ mapAfter l m s
-  stepped-marks = sym (event-taken l m s a (inr k)).map
+  stepped_marks : marked_with m (head_in s).number ≡ map_after l m s
+  stepped_marks = sym (event_taken l m s a (inr k)).map
 
   -- it is the record of the event that it tells
-  pub told-again : recordOf (steppedEventIn s) ≡ s
-  told-again = written-again s b (not-false (framed s) (entry-clear l m s a).1.0) k stepped-long
+  pub told_again : record_of (stepped_event_in s) ≡ s
+  told_again = written_again s b (not-false (framed s) (entry_clear l m s a).1.0) k stepped_long
 
   -- Its messages, sent one after the other to an empty desk, are all accepted, and lead to the ledger and the map that taking the record gives, and
   -- to an empty desk.
-  pub built-up : Leads (emptyDay l m) (map message (messagesOf s)) (emptyDay (ledgerAfter l m s) (mapAfter l m s))
-  built-up =
-      subst (Leads (emptyDay l m) (map message (messagesOf s))) (λ i. emptyDay (stepped-adds i) (stepped-marks i))
-      (event-built-up l m (steppedEventIn s) stepped-passed (accepted-sound l m s a) stepped-some stepped-new stepped-room)
+  pub built_up : Leads (empty_day l m) (map message (messages_of s)) (empty_day (ledger_after l m s) (map_after l m s))
+  built_up =
+      subst (Leads (empty_day l m) (map message (messages_of s))) (λ i. empty_day (stepped_adds i) (stepped_marks i))
+      (event_built_up l m (stepped_event_in s) stepped_passed (accepted_sound l m s a) stepped_some stepped_new stepped_room)

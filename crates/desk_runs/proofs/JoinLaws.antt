@@ -6,163 +6,163 @@ use mathlib.Core.List.{List, [], ◌∷◌, ◌++◌, map, append-nil, append_as
 use mathlib.Core.Bool.{Bool, true, false, cond}
 use lib.Dec.{eqb}
 use Rattle.base.specs.Lists.{All, Bytes}
-use Rattle.base.proofs.ListLaws.{all_both, all-front, all_back, keep_append, all_append}
+use Rattle.base.proofs.ListLaws.{all_both, all_front, all_back, keep_append, all_append}
 use Rattle.annex.specs.declared.Step.{Step}
 use Rattle.fields.specs.declared.Head.{Head}
 use Rattle.ledger.specs.declared.Ledger.{Ledger}
 use Rattle.book.specs.Book as book
-use Rattle.book.specs.Book.{starting, takeAll}
-use Rattle.slot.specs.Slot.{freeSlot}
-use Rattle.desk_days.specs.Day.{State, Arrival, bytes_of, answerTo, after, afterAll, acceptedOf}
-use Rattle.desk_days.specs.Story.{Deed, opens, steps, closes, takes, deed_of, SteppedEvent, eventFor, closings, names, about, openDeeds, completeIn, emptyDay, NothingOpen}
-use Rattle.desk_days.proofs.AfterLaws.{after-append}
-use Rattle.desk_days.proofs.StoryLaws.{closings-append, complete-append, complete-same}
-use Rattle.desk_days.proofs.StepByStep.{slots-reused, day-in-records, in_order}
+use Rattle.book.specs.Book.{starting, take_all}
+use Rattle.slot.specs.Slot.{free_slot}
+use Rattle.desk_days.specs.Day.{State, Arrival, bytes_of, answer_to, after, after_all, accepted_of}
+use Rattle.desk_days.specs.Story.{Deed, opens, steps, closes, takes, deed_of, SteppedEvent, event_for, closings, names, about, open_deeds, complete_in, empty_day, NothingOpen}
+use Rattle.desk_days.proofs.AfterLaws.{after_append}
+use Rattle.desk_days.proofs.StoryLaws.{closings_append, complete_append, complete_same}
+use Rattle.desk_days.proofs.StepByStep.{slots_reused, day_in_records, in_order}
 use Rattle.desk_runs.specs.Runs.{Builds}
 
 -- ---- an event read from its deeds: the one that is told first, and the one that is told last
 
-abbrev untilClose : List Deed → List Step
-untilClose [] = []
-untilClose (opens h ∷ ds) = []
-untilClose (steps w st ∷ ds) = st ∷ untilClose ds
-untilClose (closes w ∷ ds) = []
-untilClose (takes s ∷ ds) = []
+abbrev until_close : List Deed → List Step
+until_close [] = []
+until_close (opens h ∷ ds) = []
+until_close (steps w st ∷ ds) = st ∷ until_close ds
+until_close (closes w ∷ ds) = []
+until_close (takes s ∷ ds) = []
 
-abbrev firstTold : List Deed → SteppedEvent
-firstTold [] = record { head = freeSlot.head; steps = [] }
-firstTold (opens h ∷ ds) = record { head = h; steps = untilClose ds }
-firstTold (steps w st ∷ ds) = firstTold ds
-firstTold (closes w ∷ ds) = firstTold ds
-firstTold (takes s ∷ ds) = firstTold ds
+abbrev first_told : List Deed → SteppedEvent
+first_told [] = record { head = free_slot.head; steps = [] }
+first_told (opens h ∷ ds) = record { head = h; steps = until_close ds }
+first_told (steps w st ∷ ds) = first_told ds
+first_told (closes w ∷ ds) = first_told ds
+first_told (takes s ∷ ds) = first_told ds
 
-until-close : (v : ℕ) (ss : List Step) (ds : List Deed) → untilClose (map (λ st. steps v st) ss ++ closes v ∷ ds) ≡ ss
-until-close v [] ds = refl
-until-close v (st ∷ ss) ds = ap (λ xs. st ∷ xs) (until-close v ss ds)
+until_close_lem : (v : ℕ) (ss : List Step) (ds : List Deed) → until_close (map (λ st. steps v st) ss ++ closes v ∷ ds) ≡ ss
+until_close_lem v [] ds = refl
+until_close_lem v (st ∷ ss) ds = ap (λ xs. st ∷ xs) (until_close_lem v ss ds)
 
-first-told : (v : ℕ) (e : SteppedEvent) (ds : List Deed) → firstTold (openDeeds v e ++ closes v ∷ ds) ≡ e
-first-told v e ds = λ i. record { head = e.head; steps = until-close v e.steps ds i }
+first_told_lem : (v : ℕ) (e : SteppedEvent) (ds : List Deed) → first_told (open_deeds v e ++ closes v ∷ ds) ≡ e
+first_told_lem v e ds = λ i. record { head = e.head; steps = until_close_lem v e.steps ds i }
 
-abbrev lastTold : SteppedEvent → List Deed → SteppedEvent
-lastTold e [] = e
-lastTold e (opens h ∷ ds) = lastTold (record { head = h; steps = [] }) ds
-lastTold e (steps w st ∷ ds) = lastTold (record { head = e.head; steps = e.steps ++ st ∷ [] }) ds
-lastTold e (closes w ∷ ds) = lastTold e ds
-lastTold e (takes s ∷ ds) = lastTold e ds
+abbrev last_told : SteppedEvent → List Deed → SteppedEvent
+last_told e [] = e
+last_told e (opens h ∷ ds) = last_told (record { head = h; steps = [] }) ds
+last_told e (steps w st ∷ ds) = last_told (record { head = e.head; steps = e.steps ++ st ∷ [] }) ds
+last_told e (closes w ∷ ds) = last_told e ds
+last_told e (takes s ∷ ds) = last_told e ds
 
-last-append : (e : SteppedEvent) (xs ys : List Deed) → lastTold e (xs ++ ys) ≡ lastTold (lastTold e xs) ys
-last-append e [] ys = refl
-last-append e (opens h ∷ xs) ys = last-append (record { head = h; steps = [] }) xs ys
-last-append e (steps w st ∷ xs) ys = last-append (record { head = e.head; steps = e.steps ++ st ∷ [] }) xs ys
-last-append e (closes w ∷ xs) ys = last-append e xs ys
-last-append e (takes s ∷ xs) ys = last-append e xs ys
+last_append : (e : SteppedEvent) (xs ys : List Deed) → last_told e (xs ++ ys) ≡ last_told (last_told e xs) ys
+last_append e [] ys = refl
+last_append e (opens h ∷ xs) ys = last_append (record { head = h; steps = [] }) xs ys
+last_append e (steps w st ∷ xs) ys = last_append (record { head = e.head; steps = e.steps ++ st ∷ [] }) xs ys
+last_append e (closes w ∷ xs) ys = last_append e xs ys
+last_append e (takes s ∷ xs) ys = last_append e xs ys
 
-last-steps : (h : Head) (so ss : List Step) (v : ℕ) → lastTold (record { head = h; steps = so }) (map (λ st. steps v st) ss ++ closes v ∷ []) ≡ record { head = h; steps = so ++ ss }
-last-steps h so [] v = λ i. record { head = h; steps = sym (append-nil so) i }
-last-steps h so (st ∷ ss) v = last-steps h (so ++ st ∷ []) ss v ∙ (λ i. record { head = h; steps = append_assoc so (st ∷ []) ss i })
+last_steps : (h : Head) (so ss : List Step) (v : ℕ) → last_told (record { head = h; steps = so }) (map (λ st. steps v st) ss ++ closes v ∷ []) ≡ record { head = h; steps = so ++ ss }
+last_steps h so [] v = λ i. record { head = h; steps = sym (append-nil so) i }
+last_steps h so (st ∷ ss) v = last_steps h (so ++ st ∷ []) ss v ∙ (λ i. record { head = h; steps = append_assoc so (st ∷ []) ss i })
 
-last-told : (none : SteppedEvent) (v : ℕ) (e : SteppedEvent) → lastTold none (openDeeds v e ++ closes v ∷ []) ≡ e
-last-told none v e = last-steps e.head [] e.steps v
+last_told_lem : (none : SteppedEvent) (v : ℕ) (e : SteppedEvent) → last_told none (open_deeds v e ++ closes v ∷ []) ≡ e
+last_told_lem none v e = last_steps e.head [] e.steps v
 
 -- ---- deeds in their order
 
 -- the deeds of a number are its open, its steps and its close
 abbrev InOrder : List Deed → ℕ → Type 0
-InOrder ds v = about v ds ≡ openDeeds v (eventFor ds v) ++ closes v ∷ []
+InOrder ds v = about v ds ≡ open_deeds v (event_for ds v) ++ closes v ∷ []
 
 module _ (xs ys : List Deed) (v : ℕ) (both : InOrder (xs ++ ys) v) where
   -- what is closed in the first is told in the first
-  told-before : InOrder xs v → eventFor (xs ++ ys) v ≡ eventFor xs v
-  told-before o =
-      let same : openDeeds v (eventFor (xs ++ ys) v) ++ closes v ∷ [] ≡ openDeeds v (eventFor xs v) ++ closes v ∷ about v ys =
+  told_before : InOrder xs v → event_for (xs ++ ys) v ≡ event_for xs v
+  told_before o =
+      let same : open_deeds v (event_for (xs ++ ys) v) ++ closes v ∷ [] ≡ open_deeds v (event_for xs v) ++ closes v ∷ about v ys =
       sym both ∙
       keep_append (names v) xs ys ∙
       ap (λ ds. ds ++ about v ys) o ∙
-      append_assoc (openDeeds v (eventFor xs v)) (closes v ∷ []) (about v ys) in
-      sym (first-told v (eventFor (xs ++ ys) v) []) ∙ ap firstTold same ∙ first-told v (eventFor xs v) (about v ys)
+      append_assoc (open_deeds v (event_for xs v)) (closes v ∷ []) (about v ys) in
+      sym (first_told_lem v (event_for (xs ++ ys) v) []) ∙ ap first_told same ∙ first_told_lem v (event_for xs v) (about v ys)
 
   -- what is closed in the second is told in the second
-  told-after : InOrder ys v → eventFor (xs ++ ys) v ≡ eventFor ys v
-  told-after o =
-      let none : SteppedEvent = record { head = freeSlot.head; steps = [] } in
-      let same : openDeeds v (eventFor (xs ++ ys) v) ++ closes v ∷ [] ≡ about v xs ++ (openDeeds v (eventFor ys v) ++ closes v ∷ []) =
+  told_after : InOrder ys v → event_for (xs ++ ys) v ≡ event_for ys v
+  told_after o =
+      let none : SteppedEvent = record { head = free_slot.head; steps = [] } in
+      let same : open_deeds v (event_for (xs ++ ys) v) ++ closes v ∷ [] ≡ about v xs ++ (open_deeds v (event_for ys v) ++ closes v ∷ []) =
       sym both ∙ keep_append (names v) xs ys ∙ ap (λ ds. about v xs ++ ds) o in
-      sym (last-told none v (eventFor (xs ++ ys) v)) ∙
-      ap (lastTold none) same ∙
-      last-append none (about v xs) (openDeeds v (eventFor ys v) ++ closes v ∷ []) ∙
-      last-told (lastTold none (about v xs)) v (eventFor ys v)
+      sym (last_told_lem none v (event_for (xs ++ ys) v)) ∙
+      ap (last_told none) same ∙
+      last_append none (about v xs) (open_deeds v (event_for ys v) ++ closes v ∷ []) ∙
+      last_told_lem (last_told none (about v xs)) v (event_for ys v)
 
-records-join :
+records_join :
     (xs ys : List Deed) →
     All (InOrder xs) (closings xs) →
     All (InOrder ys) (closings ys) →
     All (InOrder (xs ++ ys)) (closings (xs ++ ys)) →
-    completeIn (xs ++ ys) (xs ++ ys) ≡ completeIn xs xs ++ completeIn ys ys
-records-join xs ys a b c =
-    let whole : All (InOrder (xs ++ ys)) (closings xs ++ closings ys) = subst (All (InOrder (xs ++ ys))) (closings-append xs ys) c in
-    let before : completeIn (xs ++ ys) xs ≡ completeIn xs xs =
-    complete-same (xs ++ ys) xs xs
-    (all_both (told-before xs ys) (closings xs) (all-front (InOrder (xs ++ ys)) (closings xs) (closings ys) whole) a) in
-    let behind : completeIn (xs ++ ys) ys ≡ completeIn ys ys =
-    complete-same (xs ++ ys) ys ys
-    (all_both (told-after xs ys) (closings ys) (all_back (InOrder (xs ++ ys)) (closings xs) (closings ys) whole) b) in
-    complete-append (xs ++ ys) xs ys ∙ (λ i. before i ++ behind i)
+    complete_in (xs ++ ys) (xs ++ ys) ≡ complete_in xs xs ++ complete_in ys ys
+records_join xs ys a b c =
+    let whole : All (InOrder (xs ++ ys)) (closings xs ++ closings ys) = subst (All (InOrder (xs ++ ys))) (closings_append xs ys) c in
+    let before : complete_in (xs ++ ys) xs ≡ complete_in xs xs =
+    complete_same (xs ++ ys) xs xs
+    (all_both (told_before xs ys) (closings xs) (all_front (InOrder (xs ++ ys)) (closings xs) (closings ys) whole) a) in
+    let behind : complete_in (xs ++ ys) ys ≡ complete_in ys ys =
+    complete_same (xs ++ ys) ys ys
+    (all_both (told_after xs ys) (closings ys) (all_back (InOrder (xs ++ ys)) (closings xs) (closings ys) whole) b) in
+    complete_append (xs ++ ys) xs ys ∙ (λ i. before i ++ behind i)
 
 -- ---- days
 
-accepted-append : (st : State) (xs ys : List Arrival) → acceptedOf st (xs ++ ys) ≡ acceptedOf st xs ++ acceptedOf (afterAll st xs) ys
-accepted-append st [] ys = refl
-accepted-append st (a ∷ xs) ys = go (eqb (answerTo st a) 0) (accepted-append (after st a) xs ys)
+accepted_append : (st : State) (xs ys : List Arrival) → accepted_of st (xs ++ ys) ≡ accepted_of st xs ++ accepted_of (after_all st xs) ys
+accepted_append st [] ys = refl
+accepted_append st (a ∷ xs) ys = go (eqb (answer_to st a) 0) (accepted_append (after st a) xs ys)
   where
     go :
         (t : Bool) →
-        acceptedOf (after st a) (xs ++ ys) ≡ acceptedOf (after st a) xs ++ acceptedOf (afterAll (after st a) xs) ys →
-        cond t (a ∷ acceptedOf (after st a) (xs ++ ys)) (acceptedOf (after st a) (xs ++ ys)) ≡
-        cond t (a ∷ acceptedOf (after st a) xs) (acceptedOf (after st a) xs) ++ acceptedOf (afterAll (after st a) xs) ys
+        accepted_of (after st a) (xs ++ ys) ≡ accepted_of (after st a) xs ++ accepted_of (after_all (after st a) xs) ys →
+        cond t (a ∷ accepted_of (after st a) (xs ++ ys)) (accepted_of (after st a) (xs ++ ys)) ≡
+        cond t (a ∷ accepted_of (after st a) xs) (accepted_of (after st a) xs) ++ accepted_of (after_all (after st a) xs) ys
     go true e = ap (λ zs. a ∷ zs) e
     go false e = e
 
 module _ (l : Ledger) (m : List ℕ) (rs : List (List ℕ)) (xs : List Arrival) (k : Builds l m rs xs) where
   -- the book that takes the records refuses none
-  pub builds-taken : takeAll (starting l m) rs ≡ record { ledger = (afterAll (emptyDay l m) xs).ledger; map = (afterAll (emptyDay l m) xs).map; refused = 0 }
-  builds-taken = ap (takeAll (starting l m)) (sym k.complete) ∙ day-in-records l m xs k.in_bytes k.nothing-open
+  pub builds_taken : take_all (starting l m) rs ≡ record { ledger = (after_all (empty_day l m) xs).ledger; map = (after_all (empty_day l m) xs).map; refused = 0 }
+  builds_taken = ap (take_all (starting l m)) (sym k.complete) ∙ day_in_records l m xs k.in_bytes k.nothing_open
 
   -- the day ends with its ledger and its map, and with an empty desk
-  pub builds-end : afterAll (emptyDay l m) xs ≡ emptyDay (takeAll (starting l m) rs).ledger (takeAll (starting l m) rs).map
-  builds-end =
+  pub builds_end : after_all (empty_day l m) xs ≡ empty_day (take_all (starting l m) rs).ledger (take_all (starting l m) rs).map
+  builds_end =
       λ i.
       record {
-        ledger = ap (λ (x : book.BookState). x.ledger) (sym builds-taken) i;
-        map = ap (λ (x : book.BookState). x.map) (sym builds-taken) i;
-        desk = slots-reused l m xs k.in_bytes k.nothing-open i;
+        ledger = ap (λ (x : book.BookState). x.ledger) (sym builds_taken) i;
+        map = ap (λ (x : book.BookState). x.map) (sym builds_taken) i;
+        desk = slots_reused l m xs k.in_bytes k.nothing_open i;
       }
 
   -- a day that goes on from there goes on building
-  pub builds-then :
+  pub builds_then :
       (rs' : List (List ℕ)) (ys : List Arrival) →
-      Builds (takeAll (starting l m) rs).ledger (takeAll (starting l m) rs).map rs' ys →
+      Builds (take_all (starting l m) rs).ledger (take_all (starting l m) rs).map rs' ys →
       Builds l m (rs ++ rs') (xs ++ ys)
-  builds-then rs' ys j =
-      let st : State = emptyDay l m in
-      let mid : State = emptyDay (takeAll (starting l m) rs).ledger (takeAll (starting l m) rs).map in
-      let one : List Deed = map deed_of (acceptedOf st xs) in
-      let two : List Deed = map deed_of (acceptedOf mid ys) in
+  builds_then rs' ys j =
+      let st : State = empty_day l m in
+      let mid : State = empty_day (take_all (starting l m) rs).ledger (take_all (starting l m) rs).map in
+      let one : List Deed = map deed_of (accepted_of st xs) in
+      let two : List Deed = map deed_of (accepted_of mid ys) in
       let bytes : All (λ a. Bytes (bytes_of a)) (xs ++ ys) = all_append (λ a. Bytes (bytes_of a)) xs ys k.in_bytes j.in_bytes in
-      let deeds : map deed_of (acceptedOf st (xs ++ ys)) ≡ one ++ two =
-      ap (map deed_of) (accepted-append st xs ys ∙ ap (λ x. acceptedOf st xs ++ acceptedOf x ys) builds-end) ∙
-      map-append deed_of (acceptedOf st xs) (acceptedOf mid ys) in
+      let deeds : map deed_of (accepted_of st (xs ++ ys)) ≡ one ++ two =
+      ap (map deed_of) (accepted_append st xs ys ∙ ap (λ x. accepted_of st xs ++ accepted_of x ys) builds_end) ∙
+      map-append deed_of (accepted_of st xs) (accepted_of mid ys) in
       record {
         in_bytes = bytes;
-        nothing-open = subst (λ x. NothingOpen x.desk) (sym (after-append st xs ys ∙ ap (λ x. afterAll x ys) builds-end)) j.nothing-open;
+        nothing_open = subst (λ x. NothingOpen x.desk) (sym (after_append st xs ys ∙ ap (λ x. after_all x ys) builds_end)) j.nothing_open;
         complete =
-            ap (λ ds. completeIn ds ds) deeds ∙
-            records-join one two
+            ap (λ ds. complete_in ds ds) deeds ∙
+            records_join one two
             (in_order l m xs k.in_bytes)
-            (in_order (takeAll (starting l m) rs).ledger (takeAll (starting l m) rs).map ys j.in_bytes)
+            (in_order (take_all (starting l m) rs).ledger (take_all (starting l m) rs).map ys j.in_bytes)
             (subst (λ ds. All (InOrder ds) (closings ds)) deeds (in_order l m (xs ++ ys) bytes)) ∙
             (λ i. k.complete i ++ j.complete i);
       }
 
 -- nothing is built by nothing
-pub builds-none : (l : Ledger) (m : List ℕ) → NothingOpen (emptyDay l m).desk → Builds l m [] []
-builds-none l m free = record { in_bytes = tt; nothing-open = free; complete = refl }
+pub builds_none : (l : Ledger) (m : List ℕ) → NothingOpen (empty_day l m).desk → Builds l m [] []
+builds_none l m free = record { in_bytes = tt; nothing_open = free; complete = refl }

@@ -10,10 +10,10 @@ use Rattle.base.specs.Lists.{Bytes}
 use Rattle.base.proofs.TestLaws.{and_right}
 use Rattle.wire.specs.Numbers.{le16}
 use Rattle.wire.specs.Frame.{framed, kind_of}
-use Rattle.fields.specs.Fields.{stepCount}
-use Rattle.codec.proofs.EncodeLaws.{event-again}
-use Rattle.desk_days.specs.Story.{steppedEventIn, recordOf}
+use Rattle.fields.specs.Fields.{step_count}
+use Rattle.codec.proofs.EncodeLaws.{event_again}
+use Rattle.desk_days.specs.Story.{stepped_event_in, record_of}
 
 -- a framed record of bytes and of kind 3, as long as its number of steps says, is the one that its event is written as
-pub written-again : (s : List ℕ) → Bytes s → framed s ≡ true → kind_of s ≡ 3 → length s ≡ 14 + 16 * stepCount s → recordOf (steppedEventIn s) ≡ s
-written-again s b whole = event-again s b (eqb-true _ _ (and_right (leb 4 (length s)) (eqb (le16 s 0) (length s)) whole))
+pub written_again : (s : List ℕ) → Bytes s → framed s ≡ true → kind_of s ≡ 3 → length s ≡ 14 + 16 * step_count s → record_of (stepped_event_in s) ≡ s
+written_again s b whole = event_again s b (eqb-true _ _ (and_right (leb 4 (length s)) (eqb (le16 s 0) (length s)) whole))

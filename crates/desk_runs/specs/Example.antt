@@ -3,15 +3,15 @@
 use Rattle.std.specs.Prelude.{ℕ, List, [], ◌∷◌, ◌++◌, Bool, true, false, get_or}
 use Rattle.wire.specs.Cut.{joined}
 use Rattle.ledger.specs.declared.Ledger.{Ledger}
-use Rattle.ledger.specs.Ledger.{emptyLedger, cell_of}
-use Rattle.law_sums.specs.Accepted.{zeroMap}
+use Rattle.ledger.specs.Ledger.{empty_ledger, cell_of}
+use Rattle.law_sums.specs.Accepted.{zero_map}
 use Rattle.desk_days.specs.Day as day
-use Rattle.desk_days.specs.Day.{Arrival, message, booked, afterAll}
-use Rattle.desk_days.specs.Story.{emptyDay}
+use Rattle.desk_days.specs.Day.{Arrival, message, booked, after_all}
+use Rattle.desk_days.specs.Story.{empty_day}
 use Rattle.worked.specs.Bytes.{three, codes, times, stepped, step, simple}
 use Rattle.worked.specs.Worked.{sheet105, example105}
-use Rattle.desk_runs.specs.Messages.{messagesOf}
-use Rattle.desk_runs.specs.Runs.{Run, dayOf}
+use Rattle.desk_runs.specs.Messages.{messages_of}
+use Rattle.desk_runs.specs.Runs.{Run, day_of}
 
 abbrev pub book105 : List ℕ
 book105 = joined (sheet105 ∷ example105 ∷ [])
@@ -21,10 +21,10 @@ abbrev pub choice105 : List Bool
 choice105 = false ∷ true ∷ []
 
 abbrev pub day105 : List Arrival
-day105 = dayOf choice105 (sheet105 ∷ example105 ∷ [])
+day105 = day_of choice105 (sheet105 ∷ example105 ∷ [])
 
 abbrev pub evening105 : day.State
-evening105 = afterAll (emptyDay emptyLedger zeroMap) day105
+evening105 = after_all (empty_day empty_ledger zero_map) day105
 
 -- customers and halves of type 11 on a level
 abbrev pub cell : Ledger → ℕ → List ℕ
@@ -39,16 +39,16 @@ second = stepped (codes 2 11 5) 0 2 (step 10 (three 10 0 0) ++ step 20 (three 0 
 abbrev pub third : List ℕ
 third = simple (codes 3 11 1) (times 0 10 15 20) (three 3 0 0) (three 2 0 0)
 
-abbrev pub bookOfThree : List ℕ
-bookOfThree = joined (sheet105 ∷ third ∷ second ∷ example105 ∷ [])
+abbrev pub book_of_three : List ℕ
+book_of_three = joined (sheet105 ∷ third ∷ second ∷ example105 ∷ [])
 
 -- message k of a record, counted from 0
 abbrev pub nth : List ℕ → ℕ → Arrival
-nth s k = message (get_or (messagesOf s) k [])
+nth s k = message (get_or (messages_of s) k [])
 
 -- a run of the sheet alone, and a run of three events: P7's is open all the time, and P9's is entered while both others are open
-abbrev pub twoRuns : List Run
-twoRuns =
+abbrev pub two_runs : List Run
+two_runs =
     (record { records = sheet105 ∷ []; arrivals = booked sheet105 ∷ [] }) ∷
     (record {
       records = third ∷ second ∷ example105 ∷ [];

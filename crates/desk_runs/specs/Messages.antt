@@ -3,20 +3,20 @@ use Rattle.std.specs.Prelude.{ℕ, ◌+◌, List, [], ◌∷◌, ◌++◌, lengt
 use Rattle.wire.specs.Numbers.{le2}
 use Rattle.annex.specs.declared.Step.{Step}
 use Rattle.fields.specs.declared.Head.{Head}
-use Rattle.codec.specs.Codec.{fourEach, frame, headBytes, stepNumbers}
-use Rattle.desk_days.specs.Story.{SteppedEvent, steppedEventIn}
+use Rattle.codec.specs.Codec.{four_each, frame, head_bytes, step_numbers}
+use Rattle.desk_days.specs.Story.{SteppedEvent, stepped_event_in}
 
 -- 16 open: number 2, type 1, voltage 1, cause 1, T0; 13
-abbrev pub openOf : Head → List ℕ
-openOf h = frame 13 16 ++ headBytes h
+abbrev pub open_of : Head → List ℕ
+open_of h = frame 13 16 ++ head_bytes h
 
 -- 17 step: number 2, ordinal 1, time, 3 counts; 23
 abbrev pub step_of : ℕ → ℕ → Step → List ℕ
-step_of v ordinal st = frame 23 17 ++ (le2 v ++ (ordinal ∷ fourEach (stepNumbers (st ∷ []))))
+step_of v ordinal st = frame 23 17 ++ (le2 v ++ (ordinal ∷ four_each (step_numbers (st ∷ []))))
 
 -- 18 close: number 2, steps taken 1; 7
-abbrev pub closeOf : ℕ → ℕ → List ℕ
-closeOf v taken = frame 7 18 ++ (le2 v ++ (taken ∷ []))
+abbrev pub close_of : ℕ → ℕ → List ℕ
+close_of v taken = frame 7 18 ++ (le2 v ++ (taken ∷ []))
 
 -- "A step names its outage and carries ordinal 1, 2, 3 and so on": the steps of outage v that come after so many taken
 abbrev pub steps_of : ℕ → ℕ → List Step → List (List ℕ)
@@ -24,9 +24,9 @@ steps_of v taken [] = []
 steps_of v taken (st ∷ ss) = step_of v (taken + 1) st ∷ steps_of v (taken + 1) ss
 
 -- "a close carries the number of steps taken"
-abbrev pub messagesFor : SteppedEvent → List (List ℕ)
-messagesFor e = openOf e.head ∷ (steps_of e.head.number 0 e.steps ++ closeOf e.head.number (length e.steps) ∷ [])
+abbrev pub messages_for : SteppedEvent → List (List ℕ)
+messages_for e = open_of e.head ∷ (steps_of e.head.number 0 e.steps ++ close_of e.head.number (length e.steps) ∷ [])
 
 -- the messages of the event that a record of kind 3 tells
-abbrev pub messagesOf : List ℕ → List (List ℕ)
-messagesOf s = messagesFor (steppedEventIn s)
+abbrev pub messages_of : List ℕ → List (List ℕ)
+messages_of s = messages_for (stepped_event_in s)

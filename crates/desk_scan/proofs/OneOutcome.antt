@@ -18,11 +18,11 @@ enter_one κs a x y v w p q = (alike p.0 q.0, λ i. (alike p.1 q.1 i, (tt, (tt, 
 pub by_one : OneOutcome by-kinds.ps by-kinds.r by.Post
 by_one κs a x y v w p q = (alike p q, refl)
 
-pub holds-one : OneOutcome holds-kinds.ps holds-kinds.r holds.Post
-holds-one κs a x y v w p q = (alike p q, refl)
+pub holds_one : OneOutcome holds-kinds.ps holds-kinds.r holds.Post
+holds_one κs a x y v w p q = (alike p q, refl)
 
-pub place-of-one : OneOutcome place-of-kinds.ps place-of-kinds.r place_of.Post
-place-of-one κs a x y v w p q = (alike p q, refl)
+pub place_of_one : OneOutcome place-of-kinds.ps place-of-kinds.r place_of.Post
+place_of_one κs a x y v w p q = (alike p q, refl)
 
-pub named-one : OneOutcome named-kinds.ps named-kinds.r named.Post
-named-one κs a x y v w p q = (alike p q, refl)
+pub named_one : OneOutcome named-kinds.ps named-kinds.r named.Post
+named_one κs a x y v w p q = (alike p q, refl)

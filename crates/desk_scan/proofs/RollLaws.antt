@@ -11,71 +11,71 @@ use native.Mathlib.Numerals.{add-one}
 use borrow.Author.Tests.{eqb-true}
 use Rattle.base.specs.Lists.{every, place}
 use Rattle.slot.specs.declared.Slot.{Slot}
-use Rattle.slot.specs.Slot.{freeSlot}
-use Rattle.slot.specs.Sound.{slotSound}
+use Rattle.slot.specs.Slot.{free_slot}
+use Rattle.slot.specs.Sound.{slot_sound}
 use Rattle.desk_scan.specs.declared.Roll.{Roll}
-use Rattle.desk_scan.specs.Desk.{slotCount, number_at, numbersOf, differ, deskSound, place_of, number_in}
-use Rattle.desk_scan.specs.Inside.{noRoll, rolledSlot, rolled, rollOf, rollSound, placeNamed}
-use Rattle.desk_scan.proofs.SearchLaws.{numbers-length}
+use Rattle.desk_scan.specs.Desk.{slot_count, number_at, numbers_of, differ, desk_sound, place_of, number_in}
+use Rattle.desk_scan.specs.Inside.{no_roll, rolled_slot, rolled, roll_of, roll_sound, place_named}
+use Rattle.desk_scan.proofs.SearchLaws.{numbers_length}
 
 -- a turn leaves what the whole pass gives as it is
-pub turned : (r : Roll) (i : ℕ) (d : List Slot) → i < length d → rolled r i (drop i d) ≡ rolled (rolledSlot r i (get_or d i freeSlot)) (i + 1) (drop (i + 1) d)
+pub turned : (r : Roll) (i : ℕ) (d : List Slot) → i < length d → rolled r i (drop i d) ≡ rolled (rolled_slot r i (get_or d i free_slot)) (i + 1) (drop (i + 1) d)
 turned r i d l =
-    ap (rolled r i) (drop-cons d i freeSlot l) ∙
-    ap (λ j. rolled (rolledSlot r i (get_or d i freeSlot)) (i + 1) (drop j d)) (sym (add-one i))
+    ap (rolled r i) (drop-cons d i free_slot l) ∙
+    ap (λ j. rolled (rolled_slot r i (get_or d i free_slot)) (i + 1) (drop j d)) (sym (add-one i))
 
 -- past the last slot nothing is added
-pub at-end : (r : Roll) (i : ℕ) (d : List Slot) → length d ≤ i → rolled r i (drop i d) ≡ r
-at-end r i d l = ap (rolled r i) (drop_of_length-le d l)
+pub at_end : (r : Roll) (i : ℕ) (d : List Slot) → length d ≤ i → rolled r i (drop i d) ≡ r
+at_end r i d l = ap (rolled r i) (drop_of_length-le d l)
 
 -- what a pass over some slots adds: their soundness, and their numbers from an index on
-pub rolled-sound : (r : Roll) (at : ℕ) (ss : List Slot) → (rolled r at ss).sound ≡ (r.sound && every slotSound ss)
-unfolding rolledSlot
-rolled-sound r at [] = sym (and-true r.sound)
-rolled-sound r at (s ∷ ss) = rolled-sound (rolledSlot r at s) (at + 1) ss ∙ and_assoc r.sound (slotSound s) (every slotSound ss)
+pub rolled_sound : (r : Roll) (at : ℕ) (ss : List Slot) → (rolled r at ss).sound ≡ (r.sound && every slot_sound ss)
+unfolding rolled_slot
+rolled_sound r at [] = sym (and-true r.sound)
+rolled_sound r at (s ∷ ss) = rolled_sound (rolled_slot r at s) (at + 1) ss ∙ and_assoc r.sound (slot_sound s) (every slot_sound ss)
 
-pub rolled-numbers : (r : Roll) (at : ℕ) (ss : List Slot) → (rolled r at ss).numbers ≡ sets r.numbers at (numbersOf ss)
-unfolding rolledSlot
-rolled-numbers r at [] = refl
-rolled-numbers r at (s ∷ ss) =
-    rolled-numbers (rolledSlot r at s) (at + 1) ss ∙ ap (λ k. sets (set r.numbers at (number_at s)) k (numbersOf ss)) (add-one at)
+pub rolled_numbers : (r : Roll) (at : ℕ) (ss : List Slot) → (rolled r at ss).numbers ≡ sets r.numbers at (numbers_of ss)
+unfolding rolled_slot
+rolled_numbers r at [] = refl
+rolled_numbers r at (s ∷ ss) =
+    rolled_numbers (rolled_slot r at s) (at + 1) ss ∙ ap (λ k. sets (set r.numbers at (number_at s)) k (numbers_of ss)) (add-one at)
 
 -- what was written before stays, what follows is yet as it was
-pub rolled-prefix : (r : Roll) (at : ℕ) (ss : List Slot) → at + length ss ≤ length r.numbers → (rolled r at ss).numbers ≡ take at r.numbers ++ numbersOf ss ++ drop (at + length ss) r.numbers
-rolled-prefix r at ss l =
-    rolled-numbers r at ss ∙
-    sets-eq (numbersOf ss) r.numbers at (subst (λ k. at + k ≤ length r.numbers) (sym (numbers-length ss)) l) ∙
-    ap (λ k. take at r.numbers ++ numbersOf ss ++ drop (at + k) r.numbers) (numbers-length ss)
+pub rolled_prefix : (r : Roll) (at : ℕ) (ss : List Slot) → at + length ss ≤ length r.numbers → (rolled r at ss).numbers ≡ take at r.numbers ++ numbers_of ss ++ drop (at + length ss) r.numbers
+rolled_prefix r at ss l =
+    rolled_numbers r at ss ∙
+    sets-eq (numbers_of ss) r.numbers at (subst (λ k. at + k ≤ length r.numbers) (sym (numbers_length ss)) l) ∙
+    ap (λ k. take at r.numbers ++ numbers_of ss ++ drop (at + k) r.numbers) (numbers_length ss)
 
 -- as many numbers as before
-pub rolled-count : (r : Roll) (at : ℕ) (ss : List Slot) → length (rolled r at ss).numbers ≡ length r.numbers
-rolled-count r at ss = ap length (rolled-numbers r at ss) ∙ length-sets r.numbers at (numbersOf ss)
+pub rolled_count : (r : Roll) (at : ℕ) (ss : List Slot) → length (rolled r at ss).numbers ≡ length r.numbers
+rolled_count r at ss = ap length (rolled_numbers r at ss) ∙ length-sets r.numbers at (numbers_of ss)
 
 -- a whole pass
-pub roll-sound : (d : List Slot) → (rollOf d).sound ≡ every slotSound d
-roll-sound d = rolled-sound noRoll 0 d
+pub roll_sound_lem : (d : List Slot) → (roll_of d).sound ≡ every slot_sound d
+roll_sound_lem d = rolled_sound no_roll 0 d
 
-pub roll-count : (d : List Slot) → length (rollOf d).numbers ≡ slotCount
-roll-count d = rolled-count noRoll 0 d
+pub roll_count : (d : List Slot) → length (roll_of d).numbers ≡ slot_count
+roll_count d = rolled_count no_roll 0 d
 
-pub roll-numbers : (d : List Slot) → length d ≡ slotCount → (rollOf d).numbers ≡ numbersOf d
-roll-numbers d e =
-    rolled-prefix noRoll 0 d (omega arith) ∙
-    ap (λ k. numbersOf d ++ drop (0 + k) (replicate slotCount 0)) e ∙
-    append-nil (numbersOf d)
+pub roll_numbers : (d : List Slot) → length d ≡ slot_count → (roll_of d).numbers ≡ numbers_of d
+roll_numbers d e =
+    rolled_prefix no_roll 0 d (omega arith) ∙
+    ap (λ k. numbers_of d ++ drop (0 + k) (replicate slot_count 0)) e ∙
+    append-nil (numbers_of d)
 
 -- the roll is sound exactly where the desk is
-pub roll-is : (d : List Slot) → rollSound (length d) (rollOf d) ≡ deskSound d
-unfolding deskSound
-roll-is d = go (eqb (length d) slotCount) refl
+pub roll_is : (d : List Slot) → roll_sound (length d) (roll_of d) ≡ desk_sound d
+unfolding desk_sound
+roll_is d = go (eqb (length d) slot_count) refl
   where
-    go : (t : Bool) → eqb (length d) slotCount ≡ t → (t && (rollOf d).sound && differ (rollOf d).numbers) ≡ (t && every slotSound d && differ (numbersOf d))
-    go true e = λ i. roll-sound d i && differ (roll-numbers d (eqb-true (length d) slotCount e) i)
+    go : (t : Bool) → eqb (length d) slot_count ≡ t → (t && (roll_of d).sound && differ (roll_of d).numbers) ≡ (t && every slot_sound d && differ (numbers_of d))
+    go true e = λ i. roll_sound_lem d i && differ (roll_numbers d (eqb-true (length d) slot_count e) i)
     go false e = refl
 
 -- the place of the outage that a message names, and the free slot of lowest index
-pub place-named : (d : List Slot) (s : List ℕ) → length d ≡ slotCount → placeNamed (rollOf d) s ≡ place_of (number_in s) d
-place-named d s e = ap (place (number_in s)) (roll-numbers d e)
+pub place_named_lem : (d : List Slot) (s : List ℕ) → length d ≡ slot_count → place_named (roll_of d) s ≡ place_of (number_in s) d
+place_named_lem d s e = ap (place (number_in s)) (roll_numbers d e)
 
-pub place-free : (d : List Slot) → length d ≡ slotCount → place 0 (rollOf d).numbers ≡ place_of 0 d
-place-free d e = ap (place 0) (roll-numbers d e)
+pub place_free : (d : List Slot) → length d ≡ slot_count → place 0 (roll_of d).numbers ≡ place_of 0 d
+place_free d e = ap (place 0) (roll_numbers d e)

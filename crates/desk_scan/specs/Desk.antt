@@ -3,22 +3,22 @@ use Rattle.std.specs.Prelude.{ℕ, List, [], ◌∷◌, map, Bool, true, ◌&&�
 use Rattle.base.specs.Lists.{every, listed, place}
 use Rattle.wire.specs.Numbers.{le16}
 use Rattle.slot.specs.declared.Slot.{Slot}
-use Rattle.slot.specs.Slot.{freeSlot}
-use Rattle.slot.specs.Sound.{slotSound}
+use Rattle.slot.specs.Slot.{free_slot}
+use Rattle.slot.specs.Sound.{slot_sound}
 
 -- how many slots a desk has
-abbrev pub slotCount : ℕ
-slotCount = 32
+abbrev pub slot_count : ℕ
+slot_count = 32
 
-abbrev pub emptyDesk : List Slot
-emptyDesk = replicate slotCount freeSlot
+abbrev pub empty_desk : List Slot
+empty_desk = replicate slot_count free_slot
 
 abbrev pub number_at : Slot → ℕ
 number_at s = s.head.number
 
 -- the number in each slot, 0 in a free one
-abbrev pub numbersOf : List Slot → List ℕ
-numbersOf d = map number_at d
+abbrev pub numbers_of : List Slot → List ℕ
+numbers_of d = map number_at d
 
 -- "open numbers differ"
 abbrev pub differ : List ℕ → Bool
@@ -26,17 +26,17 @@ differ [] = true
 differ (v ∷ vs) = (eqb v 0 || not (listed v vs)) && differ vs
 
 -- not "desk not 32 slots or unsound"
-unfoldable pub deskSound : List Slot → Bool
-deskSound d = eqb (length d) slotCount && every slotSound d && differ (numbersOf d)
+unfoldable pub desk_sound : List Slot → Bool
+desk_sound d = eqb (length d) slot_count && every slot_sound d && differ (numbers_of d)
 
 -- the search: how many slots it passes before the first that holds the number, which is that slot's index; all of them where none holds it.
 -- The free slot of lowest index is where 0 is found.
 abbrev pub place_of : ℕ → List Slot → ℕ
-place_of v d = place v (numbersOf d)
+place_of v d = place v (numbers_of d)
 
 -- the slot that holds the number, zeros only where none does
 abbrev pub slot_of : ℕ → List Slot → Slot
-slot_of v d = get_or d (place_of v d) freeSlot
+slot_of v d = get_or d (place_of v d) free_slot
 
 -- kinds 16, 17 and 18: "number 2, .."
 abbrev pub number_in : List ℕ → ℕ

@@ -2,7 +2,7 @@
 ghost use Rattle.std.specs.Prelude.{◌≡◌, ◌+◌, drop, set};
 ghost use Rattle.base.specs.Lists.{listed, place};
 ghost use Rattle.desk_scan.specs.Desk.{differ};
-ghost use Rattle.desk_scan.specs.Inside.{rollBy, rolledSlot, rollSound, placeNamed};
+ghost use Rattle.desk_scan.specs.Inside.{roll_by, rolled_slot, roll_sound, place_named};
 
 use slot::Slot;
 
@@ -70,7 +70,7 @@ fn note(numbers: &mut [u16], at: usize, number: u16)
 // Enters the slot at an index: its number is written among the numbers, and the answer is whether all slots so far are sound. Of a free slot nothing
 // more is asked.
 pub fn enter(numbers: &mut [u16], sound: bool, at: usize, slot: Slot) -> bool
-    ensures { (result ≡ (rolledSlot (rollBy sound numbers.old) at slot).sound) × (numbers.new ≡ (rolledSlot (rollBy sound numbers.old) at slot).numbers) }
+    ensures { (result ≡ (rolled_slot (roll_by sound numbers.old) at slot).sound) × (numbers.new ≡ (rolled_slot (roll_by sound numbers.old) at slot).numbers) }
 {
     let head = slot.head;
     note(numbers, at, head.number);
@@ -83,14 +83,14 @@ pub fn enter(numbers: &mut [u16], sound: bool, at: usize, slot: Slot) -> bool
 impl Roll {
     // The roll that has been entered.
     pub fn by(sound: bool, numbers: [u16; 32]) -> Roll
-        ensures { result ≡ rollBy sound numbers }
+        ensures { result ≡ roll_by sound numbers }
     {
         Roll { sound, numbers }
     }
 
     // Whether the roll is that of a sound desk of so many slots.
     pub fn holds(self, slots: usize) -> bool
-        ensures { result ≡ rollSound slots self }
+        ensures { result ≡ roll_sound slots self }
     {
         let numbers = self.numbers;
         (slots == SLOTS) & self.sound & numbers_differ(numbers)
@@ -106,7 +106,7 @@ impl Roll {
 
     // The search for the outage that a message names.
     pub fn named(self, bytes: &[u8]) -> usize
-        ensures { result ≡ placeNamed self bytes.now }
+        ensures { result ≡ place_named self bytes.now }
     {
         self.place_of(wire::u16_at(bytes, 4))
     }

@@ -7,16 +7,16 @@ use lib.ListN.{length, get_or-eq_default}
 use lib.Dec.{eqb}
 use native.Mathlib.Omega.{arith}
 use Rattle.base.specs.Lists.{listed, place}
-use Rattle.element_codes.specs.Elements.{codes, elementListed, rowOf, code_at}
+use Rattle.element_codes.specs.Elements.{codes, element_listed, row_of, code_at}
 
 count : length codes ≡ 62
 unfolding codes
 count = refl
 
 -- past the last row there is no code
-pub code-past : (row : ℕ) → 62 ≤ row → code_at row ≡ 0
+pub code_past : (row : ℕ) → 62 ≤ row → code_at row ≡ 0
 unfolding code_at
-code-past row past = get_or-eq_default codes 0 (omega (arith, past, count))
+code_past row past = get_or-eq_default codes 0 (omega (arith, past, count))
 
 -- what a list holds has its place within it, what it does not hold has the place past its end
 module _ (x : ℕ) where
@@ -37,15 +37,15 @@ module _ (x : ℕ) where
       go false f ih = ap suc (ih f)
 
 -- a listed code has one of the 62 rows, and another the row past the last
-pub listed-row : (code : ℕ) → elementListed code ≡ true → rowOf code < 62
-unfolding elementListed rowOf
-listed-row code e = let l = within code codes e in omega (arith, l, count)
+pub listed_row : (code : ℕ) → element_listed code ≡ true → row_of code < 62
+unfolding element_listed row_of
+listed_row code e = let l = within code codes e in omega (arith, l, count)
 
-pub unlisted-row : (code : ℕ) → elementListed code ≡ false → rowOf code ≡ 62
-unfolding elementListed rowOf
-unlisted-row code e = past code codes e ∙ count
+pub unlisted_row : (code : ℕ) → element_listed code ≡ false → row_of code ≡ 62
+unfolding element_listed row_of
+unlisted_row code e = past code codes e ∙ count
 
 -- the code of each row has that row: the printed codes differ
-pub rows-in-order : map rowOf codes ≡ 0 ∷ 1 ∷ 2 ∷ 3 ∷ 4 ∷ 5 ∷ 6 ∷ 7 ∷ 8 ∷ 9 ∷ 10 ∷ 11 ∷ 12 ∷ 13 ∷ 14 ∷ 15 ∷ 16 ∷ 17 ∷ 18 ∷ 19 ∷ 20 ∷ 21 ∷ 22 ∷ 23 ∷ 24 ∷ 25 ∷ 26 ∷ 27 ∷ 28 ∷ 29 ∷ 30 ∷ 31 ∷ 32 ∷ 33 ∷ 34 ∷ 35 ∷ 36 ∷ 37 ∷ 38 ∷ 39 ∷ 40 ∷ 41 ∷ 42 ∷ 43 ∷ 44 ∷ 45 ∷ 46 ∷ 47 ∷ 48 ∷ 49 ∷ 50 ∷ 51 ∷ 52 ∷ 53 ∷ 54 ∷ 55 ∷ 56 ∷ 57 ∷ 58 ∷ 59 ∷ 60 ∷ 61 ∷ []
-unfolding codes rowOf
-rows-in-order = refl
+pub rows_in_order : map row_of codes ≡ 0 ∷ 1 ∷ 2 ∷ 3 ∷ 4 ∷ 5 ∷ 6 ∷ 7 ∷ 8 ∷ 9 ∷ 10 ∷ 11 ∷ 12 ∷ 13 ∷ 14 ∷ 15 ∷ 16 ∷ 17 ∷ 18 ∷ 19 ∷ 20 ∷ 21 ∷ 22 ∷ 23 ∷ 24 ∷ 25 ∷ 26 ∷ 27 ∷ 28 ∷ 29 ∷ 30 ∷ 31 ∷ 32 ∷ 33 ∷ 34 ∷ 35 ∷ 36 ∷ 37 ∷ 38 ∷ 39 ∷ 40 ∷ 41 ∷ 42 ∷ 43 ∷ 44 ∷ 45 ∷ 46 ∷ 47 ∷ 48 ∷ 49 ∷ 50 ∷ 51 ∷ 52 ∷ 53 ∷ 54 ∷ 55 ∷ 56 ∷ 57 ∷ 58 ∷ 59 ∷ 60 ∷ 61 ∷ []
+unfolding codes row_of
+rows_in_order = refl

@@ -12,15 +12,15 @@ codes =
     241 ∷ 242 ∷ 243 ∷ 244 ∷ 245 ∷ 246 ∷ 247 ∷ 249 ∷
     251 ∷ 252 ∷ 253 ∷ 254 ∷ 255 ∷ 256 ∷ 259 ∷ []
 
-abbrev pub elementCount : ℕ
-elementCount = 62
+abbrev pub element_count : ℕ
+element_count = 62
 
-unfoldable pub elementListed : ℕ → Bool
-elementListed code = listed code codes
+unfoldable pub element_listed : ℕ → Bool
+element_listed code = listed code codes
 
 -- the row of a code in an element table is its place in the list; one that is not listed has the row past the last
-unfoldable pub rowOf : ℕ → ℕ
-rowOf code = place code codes
+unfoldable pub row_of : ℕ → ℕ
+row_of code = place code codes
 
 unfoldable pub code_at : ℕ → ℕ
 code_at row = get_or codes row 0

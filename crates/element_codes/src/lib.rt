@@ -1,7 +1,7 @@
 // The elements of section 9.8 of the annex: their codes, as printed, and each one's row in a table of elements.
 ghost use Rattle.std.specs.Prelude.{◌≡◌};
 ghost use Rattle.base.specs.Lists.{listed, place};
-ghost use Rattle.element_codes.specs.Elements.{elementListed, rowOf, code_at};
+ghost use Rattle.element_codes.specs.Elements.{element_listed, row_of, code_at};
 
 // Section 9.8, as printed: an element table has a row for each.
 const CODES: [u16; 62] = [
@@ -40,14 +40,14 @@ fn place_in(table: [u16; 62], code: u16) -> usize
 
 // Whether a code is listed.
 pub fn is_element(code: u16) -> bool
-    ensures { result ≡ elementListed code }
+    ensures { result ≡ element_listed code }
 {
     in_table(CODES, code)
 }
 
 // The row of a code: its place in the printed list; 62 where it is not listed.
 pub fn row_of(code: u16) -> usize
-    ensures { result ≡ rowOf code }
+    ensures { result ≡ row_of code }
 {
     place_in(CODES, code)
 }

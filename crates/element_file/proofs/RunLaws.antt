@@ -10,134 +10,134 @@ use native.Mathlib.Nat.{add-zero}
 use borrow.Author.Tests.{eq-eqb, ne_eqb}
 use Rattle.base.proofs.TestLaws.{Tested, holds, fails, test}
 use Rattle.wire.specs.declared.Stand.{Stand}
-use Rattle.wire.specs.Book.{placeAt, standOf, part_of}
-use Rattle.wire.specs.Cut.{recordsOf}
-use Rattle.records.specs.Records.{oneIfRefused, isBroken}
+use Rattle.wire.specs.Book.{place_at, stand_of, part_of}
+use Rattle.wire.specs.Cut.{records_of}
+use Rattle.records.specs.Records.{one_if_refused, is_broken}
 use Rattle.records.proofs.TakeLaws as all
 use Rattle.records.proofs.TakeLaws.{one_at_most}
 use Rattle.records.proofs.RunLaws as run
 use Rattle.element_table.specs.declared.Table.{Table}
 use Rattle.element_table.specs.declared.Filed.{Filed}
-use Rattle.element_table.specs.Table.{soundTable, seenAs, fileBegun}
+use Rattle.element_table.specs.Table.{sound_table, seen_as, file_begun}
 use Rattle.element_table.specs.Rules.{answer_of}
 use Rattle.element_table.specs.Take.{taken_of}
-use Rattle.element_table.proofs.AnswerLaws.{file-begins}
-use Rattle.element_table.proofs.ExactlyThen.{file-exactly-0}
-use Rattle.element_table.proofs.RefusedLaws.{file-hands-back}
-use Rattle.element_table.proofs.SoundLaws.{marked-sound, sound-stays-sound}
+use Rattle.element_table.proofs.AnswerLaws.{file_begins}
+use Rattle.element_table.proofs.ExactlyThen.{file_exactly_0}
+use Rattle.element_table.proofs.RefusedLaws.{file_hands_back}
+use Rattle.element_table.proofs.SoundLaws.{marked_sound, sound_stays_sound}
 use Rattle.element_file.specs.declared.Pass.{Pass}
 use Rattle.element_file.specs.declared.Reading.{Reading}
-use Rattle.element_file.specs.Yearly.{FileState, starting, takeRecord, takeAll, afterRecords, afterFile, passOf, fileOf}
+use Rattle.element_file.specs.Yearly.{FileState, starting, take_record, take_all, after_records, after_file, pass_of, file_of}
 
 -- how the refused records are counted
-abbrev pub refusedIn : FileState → ℕ
-refusedIn st = st.refused
+abbrev pub refused_in : FileState → ℕ
+refused_in st = st.refused
 
 abbrev pub answer_in : FileState → List ℕ → ℕ
 answer_in st s = answer_of st.table s
 
 -- a record counts as one refused more where its answer is not 0, and else as none
-pub refused-counted : (st : FileState) (s : List ℕ) → refusedIn (takeRecord st s) ≡ refusedIn st + oneIfRefused (answer_in st s)
-unfolding takeRecord
-refused-counted st s = refl
+pub refused_counted : (st : FileState) (s : List ℕ) → refused_in (take_record st s) ≡ refused_in st + one_if_refused (answer_in st s)
+unfolding take_record
+refused_counted st s = refl
 
 -- no more records are refused than there are bytes
-pub refused-below : (t : Table) (bytes : List ℕ) → (afterRecords t bytes).refused ≤ length bytes
-refused-below t bytes = omega (arith, all.refused-below takeRecord refusedIn answer_in refused-counted (starting t) bytes)
+pub refused_below : (t : Table) (bytes : List ℕ) → (after_records t bytes).refused ≤ length bytes
+refused_below t bytes = omega (arith, all.refused_below take_record refused_in answer_in refused_counted (starting t) bytes)
 
 -- at a turn of the loop over the records of some bytes, begun from table t₀: table t, r refused records so far, and what stands next
 module _ (t₀ : Table) (bytes : List ℕ) where
   abbrev pub Going : Table → ℕ → Stand → Type 0
-  Going t r stand = run.Going takeRecord refusedIn (starting t₀) bytes (record { table = t; refused = r }) stand
+  Going t r stand = run.Going take_record refused_in (starting t₀) bytes (record { table = t; refused = r }) stand
 
   module _ (t : Table) (r : ℕ) (stand : Stand) (g : Going t r stand) where
     -- the record that stands next is taken, and what it came to is filed
-    pub going_on :
+    pub going_on_lem :
         (next : Stand) →
-        next ≡ standOf (placeAt bytes stand.end) stand.end →
+        next ≡ stand_of (place_at bytes stand.end) stand.end →
         stand.which ≡ 0 →
         (filed : Filed) (n : ℕ) →
         filed ≡ taken_of t (part_of bytes stand.start stand.end) →
-        n ≡ oneIfRefused filed.answer →
+        n ≡ one_if_refused filed.answer →
         Going filed.table (r + n) next
-    unfolding takeRecord
-    going_on next there one filed n is counts =
-        let same = ap (λ (f : Filed). oneIfRefused f.answer) is in
-        run.going_on takeRecord refusedIn (starting t₀) bytes _ stand g next there one _
+    unfolding take_record
+    going_on_lem next there one filed n is counts =
+        let same = ap (λ (f : Filed). one_if_refused f.answer) is in
+        run.going_on_lem take_record refused_in (starting t₀) bytes _ stand g next there one _
         (λ i. record { table = (is i).table; refused = r + (counts ∙ same) i })
         (omega (arith, one_at_most filed.answer, counts))
 
     -- where no record stands the run is over
-    pub going-ends : (stand.which ≡ 0 → ⊥) → record { table = t; refused = r; stop = stand.start; which = stand.which } ≡ passOf t₀ bytes
-    going-ends over =
-        let e = run.going-ends takeRecord refusedIn (starting t₀) bytes _ stand g over in
+    pub going_ends : (stand.which ≡ 0 → ⊥) → record { table = t; refused = r; stop = stand.start; which = stand.which } ≡ pass_of t₀ bytes
+    going_ends over =
+        let e = run.going_ends take_record refused_in (starting t₀) bytes _ stand g over in
         λ i. record { table = (e.0 i).table; refused = (e.0 i).refused; stop = e.1 i; which = e.2 i }
 
 -- how a file was begun, by the answer: 0 of a sound table, whose mark is then cleared, and else the table as it was
-module _ (t : Table) (begun : Filed) (is : begun ≡ fileBegun t) where
-  pub begun-marked : begun.answer ≡ 0 → (soundTable t ≡ true) × (begun.table ≡ seenAs false t)
-  begun-marked z =
-      let s = (file-exactly-0 t).0 (ap (λ (f : Filed). f.answer) (sym is) ∙ z) in
-      (s, ap (λ (f : Filed). f.table) (is ∙ file-begins t s))
+module _ (t : Table) (begun : Filed) (is : begun ≡ file_begun t) where
+  pub begun_marked : begun.answer ≡ 0 → (sound_table t ≡ true) × (begun.table ≡ seen_as false t)
+  begun_marked z =
+      let s = (file_exactly_0 t).0 (ap (λ (f : Filed). f.answer) (sym is) ∙ z) in
+      (s, ap (λ (f : Filed). f.table) (is ∙ file_begins t s))
 
-  pub begun-refused : (begun.answer ≡ 0 → ⊥) → (soundTable t ≡ false) × (begun.table ≡ t)
-  begun-refused n = go (test (soundTable t))
+  pub begun_refused : (begun.answer ≡ 0 → ⊥) → (sound_table t ≡ false) × (begun.table ≡ t)
+  begun_refused n = go (test (sound_table t))
     where
-      go : Tested (soundTable t) → (soundTable t ≡ false) × (begun.table ≡ t)
-      go (holds s) = absurd (n (ap (λ (f : Filed). f.answer) is ∙ (file-exactly-0 t).1 s))
-      go (fails u) = (u, ap (λ (f : Filed). f.table) is ∙ file-hands-back t u)
+      go : Tested (sound_table t) → (sound_table t ≡ false) × (begun.table ≡ t)
+      go (holds s) = absurd (n (ap (λ (f : Filed). f.answer) is ∙ (file_exactly_0 t).1 s))
+      go (fails u) = (u, ap (λ (f : Filed). f.table) is ∙ file_hands_back t u)
 
 -- sound stays sound, over any records
-pub record-sound : (st : FileState) (s : List ℕ) → soundTable st.table ≡ true → soundTable (takeRecord st s).table ≡ true
-unfolding takeRecord
-record-sound st s e = sound-stays-sound st.table s e
+pub record_sound : (st : FileState) (s : List ℕ) → sound_table st.table ≡ true → sound_table (take_record st s).table ≡ true
+unfolding take_record
+record_sound st s e = sound_stays_sound st.table s e
 
-pub run_sound : (st : FileState) (ss : List (List ℕ)) → soundTable st.table ≡ true → soundTable (takeAll st ss).table ≡ true
-run_sound = all.all_keep takeRecord (λ (st : FileState). soundTable st.table ≡ true) record-sound
+pub run_sound : (st : FileState) (ss : List (List ℕ)) → sound_table st.table ≡ true → sound_table (take_all st ss).table ≡ true
+run_sound = all.all_keep take_record (λ (st : FileState). sound_table st.table ≡ true) record_sound
 
 -- how a whole file goes: unread, or run through to its end or to a broken length
 module _ (t : Table) (file : List ℕ) where
-  pub file-unread : soundTable t ≡ false → fileOf t file ≡ record { answer = 1; table = t; refused = 0; broken = false }
-  unfolding fileOf
-  file-unread u = rw u
+  pub file_unread : sound_table t ≡ false → file_of t file ≡ record { answer = 1; table = t; refused = 0; broken = false }
+  unfolding file_of
+  file_unread u = rw u
 
-  pub file-through :
-      soundTable t ≡ true →
-      fileOf t file ≡
+  pub file_through :
+      sound_table t ≡ true →
+      file_of t file ≡
       record {
         answer = 0;
-        table = (afterFile t file).table;
-        refused = (afterFile t file).refused + cond (isBroken file) 1 0;
-        broken = isBroken file;
+        table = (after_file t file).table;
+        refused = (after_file t file).refused + cond (is_broken file) 1 0;
+        broken = is_broken file;
       }
-  unfolding fileOf
-  file-through s = rw s
+  unfolding file_of
+  file_through s = rw s
 
   -- a sound table is sound after any file, whole or broken
-  pub reading-sound : soundTable t ≡ true → soundTable (fileOf t file).table ≡ true
-  reading-sound s =
-      ap (λ (r : Reading). soundTable r.table) (file-through s) ∙
-      run_sound (starting (seenAs false t)) (recordsOf file) (marked-sound t false ∙ s)
+  pub reading_sound : sound_table t ≡ true → sound_table (file_of t file).table ≡ true
+  reading_sound s =
+      ap (λ (r : Reading). sound_table r.table) (file_through s) ∙
+      run_sound (starting (seen_as false t)) (records_of file) (marked_sound t false ∙ s)
 
-  module _ (run : Pass) (ran : run ≡ passOf (seenAs false t) file) where
+  module _ (run : Pass) (ran : run ≡ pass_of (seen_as false t) file) where
     -- no more records of the file are refused than it has bytes
-    pub few-refused : run.refused ≤ length file
-    few-refused = subst⁻¹ (λ (r : Pass). r.refused ≤ length file) ran (refused-below (seenAs false t) file)
+    pub few_refused : run.refused ≤ length file
+    few_refused = subst⁻¹ (λ (r : Pass). r.refused ≤ length file) ran (refused_below (seen_as false t) file)
 
-    broken-here : isBroken file ≡ eqb run.which 2
-    broken-here = ap (λ (r : Pass). eqb r.which 2) (sym ran)
+    broken_here : is_broken file ≡ eqb run.which 2
+    broken_here = ap (λ (r : Pass). eqb r.which 2) (sym ran)
 
-    module _ (s : soundTable t ≡ true) where
-      by-run : (b : Bool) → eqb run.which 2 ≡ b → record { answer = 0; table = run.table; refused = run.refused + cond b 1 0; broken = b } ≡ fileOf t file
-      by-run b e =
-          let same : b ≡ isBroken file = sym (broken-here ∙ e) in
-          (λ i. record { answer = 0; table = (ran i).table; refused = (ran i).refused + cond (same i) 1 0; broken = same i }) ∙ sym (file-through s)
+    module _ (s : sound_table t ≡ true) where
+      by_run : (b : Bool) → eqb run.which 2 ≡ b → record { answer = 0; table = run.table; refused = run.refused + cond b 1 0; broken = b } ≡ file_of t file
+      by_run b e =
+          let same : b ≡ is_broken file = sym (broken_here ∙ e) in
+          (λ i. record { answer = 0; table = (ran i).table; refused = (ran i).refused + cond (same i) 1 0; broken = same i }) ∙ sym (file_through s)
 
       -- what is told of the file after its run: a broken length is one refusal more, and else nothing is added
-      pub file-broken : run.which ≡ 2 → record { answer = 0; table = run.table; refused = run.refused + 1; broken = true } ≡ fileOf t file
-      file-broken two = by-run true (eq-eqb run.which 2 two)
+      pub file_broken : run.which ≡ 2 → record { answer = 0; table = run.table; refused = run.refused + 1; broken = true } ≡ file_of t file
+      file_broken two = by_run true (eq-eqb run.which 2 two)
 
-      pub file-whole : (run.which ≡ 2 → ⊥) → record { answer = 0; table = run.table; refused = run.refused; broken = false } ≡ fileOf t file
-      file-whole other =
+      pub file_whole : (run.which ≡ 2 → ⊥) → record { answer = 0; table = run.table; refused = run.refused; broken = false } ≡ file_of t file
+      file_whole other =
           (λ i. record { answer = 0; table = run.table; refused = sym (add-zero run.refused) i; broken = false }) ∙
-          by-run false (ne_eqb run.which 2 other)
+          by_run false (ne_eqb run.which 2 other)

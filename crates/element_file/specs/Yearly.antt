@@ -1,13 +1,13 @@
 -- "A yearly element file, framed like the book and starting with a year sheet" (02, K1), taken record by record; a broken length (2) ends that
 -- file's reading.
 use Rattle.std.specs.Prelude.{ℕ, ◌+◌, ◌≡◌, List, [], ◌∷◌, false, cond}
-use Rattle.wire.specs.Cut.{recordsOf, stopFrom, endsBy}
+use Rattle.wire.specs.Cut.{records_of, stop_from, ends_by}
 use Rattle.records.specs.Records as records
-use Rattle.records.specs.Records.{oneIfRefused, isBroken}
+use Rattle.records.specs.Records.{one_if_refused, is_broken}
 use Rattle.element_table.specs.declared.Table.{Table}
-use Rattle.element_table.specs.Table.{soundTable, seenAs}
+use Rattle.element_table.specs.Table.{sound_table, seen_as}
 use Rattle.element_table.specs.Rules.{answer_of}
-use Rattle.element_table.specs.Take.{tableAfter}
+use Rattle.element_table.specs.Take.{table_after}
 use Rattle.element_file.specs.declared.Pass.{Pass}
 use Rattle.element_file.specs.declared.Reading.{Reading}
 
@@ -20,53 +20,53 @@ abbrev pub starting : Table → FileState
 starting t = record { table = t; refused = 0 }
 
 -- one record, as the table's `take` takes it
-unfoldable pub takeRecord : FileState → List ℕ → FileState
-takeRecord st s = record { table = tableAfter st.table s; refused = st.refused + oneIfRefused (answer_of st.table s) }
+unfoldable pub take_record : FileState → List ℕ → FileState
+take_record st s = record { table = table_after st.table s; refused = st.refused + one_if_refused (answer_of st.table s) }
 
-abbrev pub takeAll : FileState → List (List ℕ) → FileState
-takeAll = records.takeAll takeRecord
+abbrev pub take_all : FileState → List (List ℕ) → FileState
+take_all = records.take_all take_record
 
 -- the state after the whole records of some bytes, with where and how the reading stopped
-abbrev pub afterRecords : Table → List ℕ → FileState
-afterRecords t bytes = takeAll (starting t) (recordsOf bytes)
+abbrev pub after_records : Table → List ℕ → FileState
+after_records t bytes = take_all (starting t) (records_of bytes)
 
-abbrev pub passOf : Table → List ℕ → Pass
-passOf t bytes =
+abbrev pub pass_of : Table → List ℕ → Pass
+pass_of t bytes =
     record {
-      table = (afterRecords t bytes).table;
-      refused = (afterRecords t bytes).refused;
-      stop = stopFrom bytes 0;
-      which = endsBy bytes;
+      table = (after_records t bytes).table;
+      refused = (after_records t bytes).refused;
+      stop = stop_from bytes 0;
+      which = ends_by bytes;
     }
 
 -- a file is begun, which clears the sheet-seen mark, and its records are taken
-abbrev pub afterFile : Table → List ℕ → FileState
-afterFile t file = afterRecords (seenAs false t) file
+abbrev pub after_file : Table → List ℕ → FileState
+after_file t file = after_records (seen_as false t) file
 
 -- an unsound table answers 1, and nothing is read
-unfoldable pub fileOf : Table → List ℕ → Reading
-fileOf t file =
-    cond (soundTable t)
+unfoldable pub file_of : Table → List ℕ → Reading
+file_of t file =
+    cond (sound_table t)
     (record {
       answer = 0;
-      table = (afterFile t file).table;
-      refused = (afterFile t file).refused + cond (isBroken file) 1 0;
-      broken = isBroken file;
+      table = (after_file t file).table;
+      refused = (after_file t file).refused + cond (is_broken file) 1 0;
+      broken = is_broken file;
     })
     (record { answer = 1; table = t; refused = 0; broken = false })
 
 -- files one after the other
-abbrev pub afterFiles : Table → List (List ℕ) → Table
-afterFiles t [] = t
-afterFiles t (f ∷ fs) = afterFiles (afterFile t f).table fs
+abbrev pub after_files : Table → List (List ℕ) → Table
+after_files t [] = t
+after_files t (f ∷ fs) = after_files (after_file t f).table fs
 
 -- a file whose every record is accepted, at a table: it has a record, ends at a record's end, and nothing is refused
 pub record AcceptedFile (t : Table) (file : List ℕ) : Type 0 where
-  pub some : recordsOf file ≡ [] → ⊥
-  pub whole : isBroken file ≡ false
-  pub all : (afterFile t file).refused ≡ 0
+  pub some : records_of file ≡ [] → ⊥
+  pub whole : is_broken file ≡ false
+  pub all : (after_file t file).refused ≡ 0
 
 -- files that are accepted one after the other
 abbrev pub AcceptedFiles : Table → List (List ℕ) → Type 0
 AcceptedFiles t [] = Unit {0}
-AcceptedFiles t (f ∷ fs) = AcceptedFile t f × AcceptedFiles (afterFile t f).table fs
+AcceptedFiles t (f ∷ fs) = AcceptedFile t f × AcceptedFiles (after_file t f).table fs

@@ -1,7 +1,7 @@
 // A yearly file taken into an element table: a refused record is counted and passed over, and a broken length counts as one refusal and ends the
 // reading of that file.
 ghost use Rattle.std.specs.Prelude.{◌≡◌};
-ghost use Rattle.element_file.specs.Yearly.{passOf, fileOf};
+ghost use Rattle.element_file.specs.Yearly.{pass_of, file_of};
 
 use element_table::Table;
 
@@ -27,7 +27,7 @@ pub struct Reading {
 
 // The records of some bytes, one after the other.
 pub fn take_records(table: Table, bytes: &[u8]) -> Pass
-    ensures { result ≡ passOf table bytes.now }
+    ensures { result ≡ pass_of table bytes.now }
 {
     let mut t = table;
     let mut refused: u64 = 0;
@@ -49,7 +49,7 @@ pub fn take_records(table: Table, bytes: &[u8]) -> Pass
 
 // A whole file.
 pub fn take_file(table: Table, file: &[u8]) -> Reading
-    ensures { result ≡ fileOf table file.now }
+    ensures { result ≡ file_of table file.now }
 {
     let begun = table.begin_file();
     let t = begun.table;

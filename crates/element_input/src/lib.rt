@@ -1,7 +1,7 @@
 // A yearly element file read to its end from a descriptor, in pieces, into a table.
 ghost use Rattle.std.specs.Prelude.{ℕ, ◌+◌, ◌≤◌, ◌≡◌, List, length};
-ghost use Rattle.element_file.specs.Yearly.{FileState, takeRecord, fileOf};
-ghost use Rattle.refill.specs.Arrive.{room, mostTurns, Arrived};
+ghost use Rattle.element_file.specs.Yearly.{FileState, take_record, file_of};
+ghost use Rattle.refill.specs.Arrive.{room, most_turns, Arrived};
 ghost use Rattle.element_pieces.specs.Inflow.{reading_of};
 
 use element_file::Reading;
@@ -22,7 +22,7 @@ struct Turn {
 // One piece more, where a record can still follow.
 fn take_next(fd: i32, flow: Inflow, buffer: &mut [u8]) -> Turn
     requires { length buffer.old ≤ room }
-    ensures { (st : FileState) (turns : ℕ) → Arrived takeRecord st (reading_of flow) buffer.old turns → Arrived takeRecord st (reading_of result.flow) buffer.new (turns + 1) }
+    ensures { (st : FileState) (turns : ℕ) → Arrived take_record st (reading_of flow) buffer.old turns → Arrived take_record st (reading_of result.flow) buffer.new (turns + 1) }
 {
     if flow.dead {
         return Turn {
@@ -52,7 +52,7 @@ fn take_next(fd: i32, flow: Inflow, buffer: &mut [u8]) -> Turn
 // Turn after turn, to the end of the input or to a length below 4, after which nothing can follow.
 fn take_all(fd: i32, begun: Inflow, buffer: &mut [u8]) -> Turn
     requires { length buffer.old ≤ room }
-    ensures { (st : FileState) → Arrived takeRecord st (reading_of begun) buffer.old 0 → Arrived takeRecord st (reading_of result.flow) buffer.new mostTurns }
+    ensures { (st : FileState) → Arrived take_record st (reading_of begun) buffer.old 0 → Arrived take_record st (reading_of result.flow) buffer.new most_turns }
 {
     let mut flow = begun;
     let mut turns: u64 = 0;
@@ -80,7 +80,7 @@ pub struct Input {
 
 // Reads a file to its end into a table. Some bytes came, which the system decides, and what is answered is what `element_file` answers to them in one call.
 pub fn read_file(fd: i32, table: Table) -> Input
-    ensures { (bytes : List ℕ) × (result.read ≡ fileOf table bytes) }
+    ensures { (bytes : List ℕ) × (result.read ≡ file_of table bytes) }
 {
     let begun = element_pieces::begin(table);
     if begun.answer != 0 {

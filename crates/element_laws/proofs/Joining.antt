@@ -10,127 +10,127 @@ use lib.Dec.{ltb}
 use native.Mathlib.Omega.{arith}
 use Rattle.base.specs.Lists.{All}
 use Rattle.base.proofs.ListLaws.{all_append}
-use Rattle.base.proofs.SumLaws.{sum-append}
-use Rattle.wire.specs.Cut.{recordsOf}
+use Rattle.base.proofs.SumLaws.{sum_append}
+use Rattle.wire.specs.Cut.{records_of}
 use Rattle.element_row.specs.declared.Row.{Row}
 use Rattle.element_table.specs.declared.Table.{Table}
-use Rattle.element_row.specs.Row.{no_row, mostOutages}
-use Rattle.element_table.specs.Table.{begun, periodWithin, seenAs}
-use Rattle.element_table.proofs.RefusedLaws.{begun-rows}
-use Rattle.element_table.proofs.SoundLaws.{begun-sound}
+use Rattle.element_row.specs.Row.{no_row, most_outages}
+use Rattle.element_table.specs.Table.{begun, period_within, seen_as}
+use Rattle.element_table.proofs.RefusedLaws.{begun_rows}
+use Rattle.element_table.proofs.SoundLaws.{begun_sound}
 use Rattle.element_file.specs.Yearly.{AcceptedFiles}
-use Rattle.element_laws.specs.Tally.{outagesOf, minutesOf, stocksOf, stockOf, amountOf, total, tallied, Fitting, Each, Tells}
-use Rattle.element_laws.specs.Join.{plusRow, table_of, row_in, Joinable, Joined}
+use Rattle.element_laws.specs.Tally.{outages_of, minutes_of, stocks_of, stock_of, amount_of, total, tallied, Fitting, Each, Tells}
+use Rattle.element_laws.specs.Join.{plus_row, table_of, row_in, Joinable, Joined}
 use Rattle.element_laws.proofs.SumLaws.{same_row, when, told}
-use Rattle.element_laws.proofs.TallyLaws.{told-then, outages-then}
-use Rattle.element_laws.proofs.FileLaws.{Held, Begins, others, behindAll, markAfter, files-accepted, files-tell}
+use Rattle.element_laws.proofs.TallyLaws.{told_then, outages_then}
+use Rattle.element_laws.proofs.FileLaws.{Held, Begins, others, behind_all, mark_after, files_accepted, files_tell}
 
 -- a table that is begun takes files, and nothing is told in it
-pub begun-held : (period : ℕ) → periodWithin period ≡ true → Held (begun period)
-begun-held period within = record { sound = begun-sound period ∙ within; size = begun-rows period }
+pub begun_held : (period : ℕ) → period_within period ≡ true → Held (begun period)
+begun_held period within = record { sound = begun_sound period ∙ within; size = begun_rows period }
 
-begun-row : (period row : ℕ) → row < 62 → row_in (begun period) row ≡ no_row
-begun-row period row l = get_or-replicate 62 row no_row no_row l
+begun_row : (period row : ℕ) → row < 62 → row_in (begun period) row ≡ no_row
+begun_row period row l = get_or-replicate 62 row no_row no_row l
 
 -- the other records of files one after the other
-behind-append : (fs gs : List (List ℕ)) → behindAll (fs ++ gs) ≡ behindAll fs ++ behindAll gs
-behind-append [] gs = refl
-behind-append (f ∷ fs) gs = ap (λ rest. others (recordsOf f) ++ rest) (behind-append fs gs) ∙ sym (append_assoc (others (recordsOf f)) (behindAll fs) (behindAll gs))
+behind_append : (fs gs : List (List ℕ)) → behind_all (fs ++ gs) ≡ behind_all fs ++ behind_all gs
+behind_append [] gs = refl
+behind_append (f ∷ fs) gs = ap (λ rest. others (records_of f) ++ rest) (behind_append fs gs) ∙ sym (append_assoc (others (records_of f)) (behind_all fs) (behind_all gs))
 
-module _ (period : ℕ) (fs gs : List (List ℕ)) (within : periodWithin period ≡ true) (both : Joinable period fs gs) where
+module _ (period : ℕ) (fs gs : List (List ℕ)) (within : period_within period ≡ true) (both : Joinable period fs gs) where
   abbrev start : Table
   start = begun period
 
   abbrev ss : List (List ℕ)
-  ss = behindAll fs
+  ss = behind_all fs
 
   abbrev ts : List (List ℕ)
-  ts = behindAll gs
+  ts = behind_all gs
 
   held : Held start
-  held = begun-held period within
+  held = begun_held period within
 
   abbrev Asked : List (List ℕ) → Type 0
-  Asked hs = All Begins hs × Each start (behindAll hs)
+  Asked hs = All Begins hs × Each start (behind_all hs)
 
-  of-first : Asked fs
-  of-first = (files-accepted start held fs).0 both.first
+  of_first : Asked fs
+  of_first = (files_accepted start held fs).0 both.first
 
-  of-second : Asked gs
-  of-second = (files-accepted start held gs).0 both.second
+  of_second : Asked gs
+  of_second = (files_accepted start held gs).0 both.second
 
-  first-tells : Tells (seenAs (markAfter start.seen fs) start) ss (table_of period fs)
-  first-tells = files-tell start held fs both.first
+  first_tells : Tells (seen_as (mark_after start.seen fs) start) ss (table_of period fs)
+  first_tells = files_tell start held fs both.first
 
-  second-tells : Tells (seenAs (markAfter start.seen gs) start) ts (table_of period gs)
-  second-tells = files-tell start held gs both.second
+  second_tells : Tells (seen_as (mark_after start.seen gs) start) ts (table_of period gs)
+  second_tells = files_tell start held gs both.second
 
   module _ (row : ℕ) (l : row < 62) where
     nothing : row_in start row ≡ no_row
-    nothing = begun-row period row l
+    nothing = begun_row period row l
 
     none_out : (row_in start row).outages ≡ 0
     none_out = ap (λ (r : Row). r.outages) nothing
 
-    first-told : told (row_in (table_of period fs) row) ≡ told (row_in start row) + total (stocksOf row) ss
-    first-told = told-then (seenAs (markAfter start.seen fs) start) (table_of period fs) ss ts first-tells row l (of-first.1.once row l)
+    first_told_lem : told (row_in (table_of period fs) row) ≡ told (row_in start row) + total (stocks_of row) ss
+    first_told_lem = told_then (seen_as (mark_after start.seen fs) start) (table_of period fs) ss ts first_tells row l (of_first.1.once row l)
 
-    second-told : told (row_in (table_of period gs) row) ≡ told (row_in start row) + total (stocksOf row) ts
-    second-told = told-then (seenAs (markAfter start.seen gs) start) (table_of period gs) ts ss second-tells row l (of-second.1.once row l)
+    second_told : told (row_in (table_of period gs) row) ≡ told (row_in start row) + total (stocks_of row) ts
+    second_told = told_then (seen_as (mark_after start.seen gs) start) (table_of period gs) ts ss second_tells row l (of_second.1.once row l)
 
-    once : ((row_in (table_of period fs) row).stock ≡ 0) ⊎ ((row_in (table_of period gs) row).stock ≡ 0) → told (row_in start row) + total (stocksOf row) (ss ++ ts) ≤ 1
+    once : ((row_in (table_of period fs) row).stock ≡ 0) ⊎ ((row_in (table_of period gs) row).stock ≡ 0) → told (row_in start row) + total (stocks_of row) (ss ++ ts) ≤ 1
     once (inl e) =
         let none : told (row_in (table_of period fs) row) ≡ 0 = ap (λ n. when (ltb 0 n)) e in
-        omega (arith, none, first-told, of-second.1.once row l, sum-append (stocksOf row) ss ts)
+        omega (arith, none, first_told_lem, of_second.1.once row l, sum_append (stocks_of row) ss ts)
     once (inr e) =
         let none : told (row_in (table_of period gs) row) ≡ 0 = ap (λ n. when (ltb 0 n)) e in
-        omega (arith, none, second-told, of-first.1.once row l, sum-append (stocksOf row) ss ts)
+        omega (arith, none, second_told, of_first.1.once row l, sum_append (stocks_of row) ss ts)
 
-    room : (row_in start row).outages + total (outagesOf row) (ss ++ ts) ≤ mostOutages
+    room : (row_in start row).outages + total (outages_of row) (ss ++ ts) ≤ most_outages
     room =
         omega (
           arith,
           none_out,
           both.room row l,
-          outages-then (seenAs (markAfter start.seen fs) start) (table_of period fs) ss ts first-tells row l,
-          outages-then (seenAs (markAfter start.seen gs) start) (table_of period gs) ts ss second-tells row l,
-          sum-append (outagesOf row) ss ts,
+          outages_then (seen_as (mark_after start.seen fs) start) (table_of period fs) ss ts first_tells row l,
+          outages_then (seen_as (mark_after start.seen gs) start) (table_of period gs) ts ss second_tells row l,
+          sum_append (outages_of row) ss ts,
         )
 
     -- a row of nothing with all that both tell is the sum of the two
-    summed : tallied (row_in start row) row (ss ++ ts) ≡ plusRow (tallied (row_in start row) row ss) (tallied (row_in start row) row ts)
+    summed : tallied (row_in start row) row (ss ++ ts) ≡ plus_row (tallied (row_in start row) row ss) (tallied (row_in start row) row ts)
     summed =
         same_row _ _
-        (omega (arith, none_out, sum-append (outagesOf row) ss ts))
-        (omega (arith, ap (λ (r : Row). r.minutes) nothing, sum-append (minutesOf row) ss ts))
-        (omega (arith, ap (λ (r : Row). r.stock) nothing, sum-append (stockOf row) ss ts))
-        (omega (arith, ap (λ (r : Row). r.amount) nothing, sum-append (amountOf row) ss ts))
+        (omega (arith, none_out, sum_append (outages_of row) ss ts))
+        (omega (arith, ap (λ (r : Row). r.minutes) nothing, sum_append (minutes_of row) ss ts))
+        (omega (arith, ap (λ (r : Row). r.stock) nothing, sum_append (stock_of row) ss ts))
+        (omega (arith, ap (λ (r : Row). r.amount) nothing, sum_append (amount_of row) ss ts))
 
   all_asked : Asked (fs ++ gs)
   all_asked = (
-    all_append Begins fs gs of-first.0 of-second.0,
-    subst (Each start) (sym (behind-append fs gs))
+    all_append Begins fs gs of_first.0 of_second.0,
+    subst (Each start) (sym (behind_append fs gs))
         (record {
-          fitting = all_append Fitting ss ts of-first.1.fitting of-second.1.fitting;
+          fitting = all_append Fitting ss ts of_first.1.fitting of_second.1.fitting;
           once = λ row l. once row l (both.apart row l);
           room = room;
         }),
   )
 
-  both-accepted : AcceptedFiles start (fs ++ gs)
-  both-accepted = (files-accepted start held (fs ++ gs)).1 all_asked
+  both_accepted : AcceptedFiles start (fs ++ gs)
+  both_accepted = (files_accepted start held (fs ++ gs)).1 all_asked
 
-  both-tell : Tells (seenAs (markAfter start.seen (fs ++ gs)) start) (behindAll (fs ++ gs)) (table_of period (fs ++ gs))
-  both-tell = files-tell start held (fs ++ gs) both-accepted
+  both_tell : Tells (seen_as (mark_after start.seen (fs ++ gs)) start) (behind_all (fs ++ gs)) (table_of period (fs ++ gs))
+  both_tell = files_tell start held (fs ++ gs) both_accepted
 
   -- the theorem: under a period of 1 to 50, files that are joinable are accepted one after the other and come to the sums
   pub joined : Joined period fs gs
   joined =
       record {
-        accepted = both-accepted;
-        years = both-tell.period;
+        accepted = both_accepted;
+        years = both_tell.period;
         rows =
             λ row l.
-            both-tell.rows row l ∙ ap (tallied (row_in start row) row) (behind-append fs gs) ∙ summed row l ∙
-            (λ i. plusRow (sym (first-tells.rows row l) i) (sym (second-tells.rows row l) i));
+            both_tell.rows row l ∙ ap (tallied (row_in start row) row) (behind_append fs gs) ∙ summed row l ∙
+            (λ i. plus_row (sym (first_tells.rows row l) i) (sym (second_tells.rows row l) i));
       }

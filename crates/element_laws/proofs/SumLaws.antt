@@ -9,8 +9,8 @@ use native.Mathlib.Nat.{add-zero}
 use native.Mathlib.Omega.{arith}
 use borrow.Author.Tests.{lt-ltb}
 use Rattle.element_row.specs.declared.Row.{Row}
-use Rattle.element_rules.specs.Fields.{unitIn}
-use Rattle.element_laws.specs.Tally.{isStock, stocksOf, stockOf, total}
+use Rattle.element_rules.specs.Fields.{unit_in}
+use Rattle.element_laws.specs.Tally.{is_stock, stocks_of, stock_of, total}
 
 -- two rows with the same four numbers
 pub same_row : (a b : Row) → a.outages ≡ b.outages → a.minutes ≡ b.minutes → a.stock ≡ b.stock → a.amount ≡ b.amount → a ≡ b
@@ -20,25 +20,25 @@ same_row a b o m s n = λ i. record { outages = o i; minutes = m i; stock = s i;
 abbrev pub when : Bool → ℕ
 when b = cond b 1 0
 
-pub when-few : (b : Bool) → when b ≤ 1
-when-few true = omega arith
-when-few false = omega arith
+pub when_few : (b : Bool) → when b ≤ 1
+when_few true = omega arith
+when_few false = omega arith
 
 abbrev pub told : Row → ℕ
 told r = when (ltb 0 r.stock)
 
 -- the mark after one more, and after all
-pub mark-grows : (held : ℕ) (b : Bool) (unit : ℕ) → when (ltb 0 held) + when b ≤ 1 → when (ltb 0 (held + cond b (unit + 1) 0)) ≡ when (ltb 0 held) + when b
-mark-grows held true unit l =
+pub mark_grows : (held : ℕ) (b : Bool) (unit : ℕ) → when (ltb 0 held) + when b ≤ 1 → when (ltb 0 (held + cond b (unit + 1) 0)) ≡ when (ltb 0 held) + when b
+mark_grows held true unit l =
     let now : when (ltb 0 (held + (unit + 1))) ≡ 1 = ap when (lt-ltb 0 (held + (unit + 1)) (omega arith)) in
     omega (arith, now, l)
-mark-grows held false unit l = ap (λ n. when (ltb 0 n)) (add-zero held) ∙ sym (add-zero _)
+mark_grows held false unit l = ap (λ n. when (ltb 0 n)) (add-zero held) ∙ sym (add-zero _)
 
-pub marks-grow : (row held : ℕ) (ss : List (List ℕ)) → when (ltb 0 held) + total (stocksOf row) ss ≤ 1 → when (ltb 0 (held + total (stockOf row) ss)) ≡ when (ltb 0 held) + total (stocksOf row) ss
-marks-grow row held [] l = ap (λ n. when (ltb 0 n)) (add-zero held) ∙ sym (add-zero _)
-marks-grow row held (s ∷ ss) l =
-    let first : when (ltb 0 (held + stockOf row s)) ≡ when (ltb 0 held) + stocksOf row s = mark-grows held (isStock row s) (unitIn s) (omega (arith, l)) in
-    let rest : when (ltb 0 (held + stockOf row s + total (stockOf row) ss)) ≡ when (ltb 0 (held + stockOf row s)) + total (stocksOf row) ss =
-    marks-grow row (held + stockOf row s) ss (omega (arith, l, first)) in
-    let same : held + (stockOf row s + total (stockOf row) ss) ≡ held + stockOf row s + total (stockOf row) ss = omega arith in
+pub marks_grow : (row held : ℕ) (ss : List (List ℕ)) → when (ltb 0 held) + total (stocks_of row) ss ≤ 1 → when (ltb 0 (held + total (stock_of row) ss)) ≡ when (ltb 0 held) + total (stocks_of row) ss
+marks_grow row held [] l = ap (λ n. when (ltb 0 n)) (add-zero held) ∙ sym (add-zero _)
+marks_grow row held (s ∷ ss) l =
+    let first : when (ltb 0 (held + stock_of row s)) ≡ when (ltb 0 held) + stocks_of row s = mark_grows held (is_stock row s) (unit_in s) (omega (arith, l)) in
+    let rest : when (ltb 0 (held + stock_of row s + total (stock_of row) ss)) ≡ when (ltb 0 (held + stock_of row s)) + total (stocks_of row) ss =
+    marks_grow row (held + stock_of row s) ss (omega (arith, l, first)) in
+    let same : held + (stock_of row s + total (stock_of row) ss) ≡ held + stock_of row s + total (stock_of row) ss = omega arith in
     ap (λ n. when (ltb 0 n)) same ∙ omega (arith, rest, first)

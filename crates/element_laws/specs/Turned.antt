@@ -4,7 +4,7 @@ use Rattle.std.specs.Prelude.{ℕ, ◌≡◌, List, [], ◌∷◌, map}
 use Rattle.wire.specs.Cut.{joined}
 use Rattle.base.specs.Perm.{Perm}
 use Rattle.element_table.specs.declared.Table.{Table}
-use Rattle.element_file.specs.Yearly.{afterFiles, AcceptedFiles}
+use Rattle.element_file.specs.Yearly.{after_files, AcceptedFiles}
 
 -- a file's records: the sheet first as before, and the others in any order
 pub data SameFile : List (List ℕ) → List (List ℕ) → Type 0 where
@@ -23,4 +23,4 @@ files_of gs = map joined gs
 
 pub record SameTable (t : Table) (fs gs : List (List ℕ)) : Type 0 where
   pub accepted : AcceptedFiles t gs
-  pub table : afterFiles t gs ≡ afterFiles t fs
+  pub table : after_files t gs ≡ after_files t fs

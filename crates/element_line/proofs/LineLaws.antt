@@ -9,63 +9,63 @@ use native.Mathlib.Omega.{arith}
 use Rattle.base.proofs.TestLaws.{Tested, holds, fails, test}
 use Rattle.decimal.specs.declared.Shown.{Shown}
 use Rattle.decimal.specs.declared.Shown.TheVariants as shown
-use Rattle.element_codes.specs.Elements.{elementListed}
+use Rattle.element_codes.specs.Elements.{element_listed}
 use Rattle.element_table.specs.declared.Table.{Table}
-use Rattle.element_table.specs.Table.{soundTable}
+use Rattle.element_table.specs.Table.{sound_table}
 use Rattle.element_rates.specs.declared.Figure.{Figure}
 use Rattle.element_rates.specs.declared.Figure.TheVariants.{Is, Refused}
-use Rattle.element_rates.specs.Rates.{row_at, weightOf, rateOf, meanOf, shownRate, shownMean}
+use Rattle.element_rates.specs.Rates.{row_at, weight_of, rate_of, mean_of, shown_rate, shown_mean}
 use Rattle.text.specs.declared.Text.{Text}
-use Rattle.text.specs.Text.{text_of, pushed, pushedAll, numberText, twoText}
-use Rattle.text.proofs.TextLaws.{pushed-all-append, all-fits, number-length, both-short}
-use Rattle.element_line.specs.Listing.{fractionText, sixText, pieceWord, hundredWord, perText, lineText, line_of, headingText}
+use Rattle.text.specs.Text.{text_of, pushed, pushed_all, number_text, two_text}
+use Rattle.text.proofs.TextLaws.{pushed_all_append, all_fits, number_length, both_short}
+use Rattle.element_line.specs.Listing.{fraction_text, six_text, piece_word, hundred_word, per_text, line_text, line_of, heading_text}
 
 module _ (t : Table) (code : ℕ) (name : List ℕ) where
   -- 1 for an unsound table, then 7 for an unknown code, without text; else 0 and the line's bytes pushed
-  pub unsound-no-line : soundTable t ≡ false → line_of t code name ≡ record { answer = 1; text = text_of [] }
+  pub unsound_no_line : sound_table t ≡ false → line_of t code name ≡ record { answer = 1; text = text_of [] }
   unfolding line_of
-  unsound-no-line e = rw e refl
+  unsound_no_line e = rw e refl
 
-  pub unknown-no-line : soundTable t ≡ true → elementListed code ≡ false → line_of t code name ≡ record { answer = 7; text = text_of [] }
+  pub unknown_no_line : sound_table t ≡ true → element_listed code ≡ false → line_of t code name ≡ record { answer = 7; text = text_of [] }
   unfolding line_of
-  unknown-no-line e f = rw (e, f) refl
+  unknown_no_line e f = rw (e, f) refl
 
-  pub known-line :
-      soundTable t ≡ true → elementListed code ≡ true → line_of t code name ≡ record { answer = 0; text = pushedAll (text_of []) (lineText t code name) }
+  pub known_line :
+      sound_table t ≡ true → element_listed code ≡ true → line_of t code name ≡ record { answer = 0; text = pushed_all (text_of []) (line_text t code name) }
   unfolding line_of
-  known-line e f = rw (e, f) refl
+  known_line e f = rw (e, f) refl
 
 -- parts, each pushed after the one before, are pushed as one
-pub parts-pushed :
+pub parts_pushed :
     (code name outages per rate mean : List ℕ) {r₁ r₂ r₃ r₄ r₅ r₆ r₇ r₈ r₉ r₁₀ : Text} →
-    r₁ ≡ pushedAll (text_of []) code → r₂ ≡ pushed r₁ 9 → r₃ ≡ pushedAll r₂ name → r₄ ≡ pushed r₃ 9 → r₅ ≡ pushedAll r₄ outages →
-    r₆ ≡ pushed r₅ 9 → r₇ ≡ pushedAll r₆ per → r₈ ≡ pushedAll r₇ rate → r₉ ≡ pushedAll r₈ mean → r₁₀ ≡ pushed r₉ 10 →
-    r₁₀ ≡ pushedAll (text_of []) (code ++ (9 ∷ name) ++ (9 ∷ outages) ++ (9 ∷ per) ++ rate ++ mean ++ (10 ∷ []))
-parts-pushed code name outages per rate mean p₁ p₂ p₃ p₄ p₅ p₆ p₇ p₈ p₉ p₁₀ = simp (pushed-all-append, p₁₀, p₉, p₈, p₇, p₆, p₅, p₄, p₃, p₂, p₁)
+    r₁ ≡ pushed_all (text_of []) code → r₂ ≡ pushed r₁ 9 → r₃ ≡ pushed_all r₂ name → r₄ ≡ pushed r₃ 9 → r₅ ≡ pushed_all r₄ outages →
+    r₆ ≡ pushed r₅ 9 → r₇ ≡ pushed_all r₆ per → r₈ ≡ pushed_all r₇ rate → r₉ ≡ pushed_all r₈ mean → r₁₀ ≡ pushed r₉ 10 →
+    r₁₀ ≡ pushed_all (text_of []) (code ++ (9 ∷ name) ++ (9 ∷ outages) ++ (9 ∷ per) ++ rate ++ mean ++ (10 ∷ []))
+parts_pushed code name outages per rate mean p₁ p₂ p₃ p₄ p₅ p₆ p₇ p₈ p₉ p₁₀ = simp (pushed_all_append, p₁₀, p₉, p₈, p₇, p₆, p₅, p₄, p₃, p₂, p₁)
 
 -- what a rate is said to be per is what its formula weighs by: 1000 x outages over tenths of a kilometre are outages for 100 km
-pub per-as-weighed : (stock : ℕ) → eqb stock 0 ≡ false → perText stock ≡ cond (eqb (weightOf stock) 1000) hundredWord pieceWord
-per-as-weighed stock told = go (test (eqb stock 2))
+pub per_as_weighed : (stock : ℕ) → eqb stock 0 ≡ false → per_text stock ≡ cond (eqb (weight_of stock) 1000) hundred_word piece_word
+per_as_weighed stock told = go (test (eqb stock 2))
   where
-    go : Tested (eqb stock 2) → perText stock ≡ cond (eqb (weightOf stock) 1000) hundredWord pieceWord
+    go : Tested (eqb stock 2) → per_text stock ≡ cond (eqb (weight_of stock) 1000) hundred_word piece_word
     go (holds e) = rw (told, e) refl
     go (fails e) = rw (told, e) refl
 
-fraction-length : (f : Figure) → length (fractionText f) ≤ 41
-fraction-length (Is f) =
-    let h : length (numberText f.bottom) ≤ 20 = number-length f.bottom in
-    both-short (numberText f.top) (47 ∷ numberText f.bottom) {n = 21} (number-length f.top) (omega arith)
-fraction-length (Refused n) = omega arith
+fraction_length : (f : Figure) → length (fraction_text f) ≤ 41
+fraction_length (Is f) =
+    let h : length (number_text f.bottom) ≤ 20 = number_length f.bottom in
+    both_short (number_text f.top) (47 ∷ number_text f.bottom) {n = 21} (number_length f.top) (omega arith)
+fraction_length (Refused n) = omega arith
 
-six-length : (s : Shown) → length (sixText s) ≤ 27
-six-length (shown.Is d) =
-    both-short (numberText d.whole) (46 ∷ twoText (d.digits / 10000) ++ twoText (d.digits / 100) ++ twoText d.digits) {n = 7} (number-length d.whole) (omega arith)
-six-length (shown.Refused n) = omega arith
+six_length : (s : Shown) → length (six_text s) ≤ 27
+six_length (shown.Is d) =
+    both_short (number_text d.whole) (46 ∷ two_text (d.digits / 10000) ++ two_text (d.digits / 100) ++ two_text d.digits) {n = 7} (number_length d.whole) (omega arith)
+six_length (shown.Refused n) = omega arith
 
-per-length : (stock : ℕ) → length (perText stock) ≤ 6
-per-length stock = go (test (eqb stock 0)) (test (eqb stock 2))
+per_length : (stock : ℕ) → length (per_text stock) ≤ 6
+per_length stock = go (test (eqb stock 0)) (test (eqb stock 2))
   where
-    go : Tested (eqb stock 0) → Tested (eqb stock 2) → length (perText stock) ≤ 6
+    go : Tested (eqb stock 0) → Tested (eqb stock 2) → length (per_text stock) ≤ 6
     go (holds e) f = rw e (omega arith)
     go (fails e) (holds f) = rw (e, f) (omega arith)
     go (fails e) (fails f) = rw (e, f) (omega arith)
@@ -73,22 +73,22 @@ per-length stock = go (test (eqb stock 0)) (test (eqb stock 2))
 -- so no byte of a line is dropped
 module _ (t : Table) (code : ℕ) (name : List ℕ) (short : length name ≤ 100) where
   -- a line has at most 290 bytes, and of a sound table and a known code its text is all of them
-  pub line-length : length (lineText t code name) ≤ 290
-  line-length =
-      let c : length (numberText code) ≤ 20 = number-length code in
-      let o : length (numberText (row_at t code).outages) ≤ 20 = number-length (row_at t code).outages in
-      let p : length (perText (row_at t code).stock) ≤ 6 = per-length (row_at t code).stock in
-      let r : length (fractionText (rateOf t code)) ≤ 41 = fraction-length (rateOf t code) in
-      let s : length (sixText (shownRate t code 6)) ≤ 27 = six-length (shownRate t code 6) in
-      let m : length (fractionText (meanOf t code)) ≤ 41 = fraction-length (meanOf t code) in
-      let n : length (sixText (shownMean t code 6)) ≤ 27 = six-length (shownMean t code 6) in
+  pub line_length : length (line_text t code name) ≤ 290
+  line_length =
+      let c : length (number_text code) ≤ 20 = number_length code in
+      let o : length (number_text (row_at t code).outages) ≤ 20 = number_length (row_at t code).outages in
+      let p : length (per_text (row_at t code).stock) ≤ 6 = per_length (row_at t code).stock in
+      let r : length (fraction_text (rate_of t code)) ≤ 41 = fraction_length (rate_of t code) in
+      let s : length (six_text (shown_rate t code 6)) ≤ 27 = six_length (shown_rate t code 6) in
+      let m : length (fraction_text (mean_of t code)) ≤ 41 = fraction_length (mean_of t code) in
+      let n : length (six_text (shown_mean t code 6)) ≤ 27 = six_length (shown_mean t code 6) in
       simp length-append (omega arith)
 
-  pub line-fits : soundTable t ≡ true → elementListed code ≡ true → line_of t code name ≡ record { answer = 0; text = text_of (lineText t code name) }
-  line-fits e f =
-      let h = line-length in
-      known-line t code name e f ∙ ap (λ (s : Text). record { answer = 0; text = s }) (all-fits (lineText t code name) (omega (arith, h)))
+  pub line_fits : sound_table t ≡ true → element_listed code ≡ true → line_of t code name ≡ record { answer = 0; text = text_of (line_text t code name) }
+  line_fits e f =
+      let h = line_length in
+      known_line t code name e f ∙ ap (λ (s : Text). record { answer = 0; text = s }) (all_fits (line_text t code name) (omega (arith, h)))
 
 -- no byte of the heading is dropped either
-pub heading-fits : pushedAll (text_of []) headingText ≡ text_of headingText
-heading-fits = all-fits headingText (omega arith)
+pub heading_fits : pushed_all (text_of []) heading_text ≡ text_of heading_text
+heading_fits = all_fits heading_text (omega arith)

@@ -6,8 +6,8 @@ use Rattle.element_line.proofs.line_of.Reads as Line-of
 use Rattle.element_line.proofs.heading.Kinds as heading-kinds
 use Rattle.element_line.proofs.heading.Reads as heading
 
-pub line-of-one : OneOutcome line-of-kinds.ps line-of-kinds.r Line-of.Post
-line-of-one κs a x y v w p q = (alike p q, refl)
+pub line_of_one : OneOutcome line-of-kinds.ps line-of-kinds.r Line-of.Post
+line_of_one κs a x y v w p q = (alike p q, refl)
 
-pub heading-one : OneOutcome heading-kinds.ps heading-kinds.r heading.Post
-heading-one κs a x y v w p q = (alike p q, refl)
+pub heading_one : OneOutcome heading-kinds.ps heading-kinds.r heading.Post
+heading_one κs a x y v w p q = (alike p q, refl)

@@ -4,56 +4,56 @@
 use Rattle.std.specs.Prelude.{ℕ, ◌/◌, List, [], ◌∷◌, ◌++◌, not, cond, eqb}
 use Rattle.decimal.specs.declared.Shown.{Shown}
 use Rattle.decimal.specs.declared.Shown.TheVariants as shown
-use Rattle.element_codes.specs.Elements.{elementListed}
+use Rattle.element_codes.specs.Elements.{element_listed}
 use Rattle.element_table.specs.declared.Table.{Table}
-use Rattle.element_table.specs.Table.{soundTable}
+use Rattle.element_table.specs.Table.{sound_table}
 use Rattle.element_rates.specs.declared.Figure.{Figure}
 use Rattle.element_rates.specs.declared.Figure.TheVariants.{Is, Refused}
-use Rattle.element_rates.specs.Rates.{row_at, rateOf, meanOf, shownRate, shownMean}
-use Rattle.text.specs.Text.{text_of, pushedAll, numberText, twoText}
+use Rattle.element_rates.specs.Rates.{row_at, rate_of, mean_of, shown_rate, shown_mean}
+use Rattle.text.specs.Text.{text_of, pushed_all, number_text, two_text}
 use Rattle.element_line.specs.declared.Line.{Line}
 
 -- `n/d`, or "-"
-abbrev pub fractionText : Figure → List ℕ
-fractionText (Is f) = numberText f.top ++ (47 ∷ numberText f.bottom)
-fractionText (Refused n) = 45 ∷ []
+abbrev pub fraction_text : Figure → List ℕ
+fraction_text (Is f) = number_text f.top ++ (47 ∷ number_text f.bottom)
+fraction_text (Refused n) = 45 ∷ []
 
 -- the whole part, a point and six digits, or "-"
-abbrev pub sixText : Shown → List ℕ
-sixText (shown.Is d) = numberText d.whole ++ (46 ∷ twoText (d.digits / 10000) ++ twoText (d.digits / 100) ++ twoText d.digits)
-sixText (shown.Refused n) = 45 ∷ []
+abbrev pub six_text : Shown → List ℕ
+six_text (shown.Is d) = number_text d.whole ++ (46 ∷ two_text (d.digits / 10000) ++ two_text (d.digits / 100) ++ two_text d.digits)
+six_text (shown.Refused n) = 45 ∷ []
 
 -- a tab before each
-abbrev pub figureText : Figure → Shown → List ℕ
-figureText f s = 9 ∷ fractionText f ++ (9 ∷ sixText s)
+abbrev pub figure_text : Figure → Shown → List ℕ
+figure_text f s = 9 ∷ fraction_text f ++ (9 ∷ six_text s)
 
 -- "piece"
-abbrev pub pieceWord : List ℕ
-pieceWord = 112 ∷ 105 ∷ 101 ∷ 99 ∷ 101 ∷ []
+abbrev pub piece_word : List ℕ
+piece_word = 112 ∷ 105 ∷ 101 ∷ 99 ∷ 101 ∷ []
 
 -- "100 km"
-abbrev pub hundredWord : List ℕ
-hundredWord = 49 ∷ 48 ∷ 48 ∷ 32 ∷ 107 ∷ 109 ∷ []
+abbrev pub hundred_word : List ℕ
+hundred_word = 49 ∷ 48 ∷ 48 ∷ 32 ∷ 107 ∷ 109 ∷ []
 
 -- what a rate is per, by the stock's mark: "-" where none was told (0), 100 km of a line (2), else a piece
-abbrev pub perText : ℕ → List ℕ
-perText stock = cond (eqb stock 0) (45 ∷ []) (cond (eqb stock 2) hundredWord pieceWord)
+abbrev pub per_text : ℕ → List ℕ
+per_text stock = cond (eqb stock 0) (45 ∷ []) (cond (eqb stock 2) hundred_word piece_word)
 
-abbrev pub lineText : Table → ℕ → List ℕ → List ℕ
-lineText t code name =
-    numberText code ++ (9 ∷ name) ++ (9 ∷ numberText (row_at t code).outages) ++ (9 ∷ perText (row_at t code).stock) ++
-    figureText (rateOf t code) (shownRate t code 6) ++ figureText (meanOf t code) (shownMean t code 6) ++ (10 ∷ [])
+abbrev pub line_text : Table → ℕ → List ℕ → List ℕ
+line_text t code name =
+    number_text code ++ (9 ∷ name) ++ (9 ∷ number_text (row_at t code).outages) ++ (9 ∷ per_text (row_at t code).stock) ++
+    figure_text (rate_of t code) (shown_rate t code 6) ++ figure_text (mean_of t code) (shown_mean t code 6) ++ (10 ∷ [])
 
 -- 1 for an unsound table, 7 for an unknown code: no text then
 unfoldable pub line_of : Table → ℕ → List ℕ → Line
 line_of t code name =
-    cond (not (soundTable t)) (record { answer = 1; text = text_of [] })
-    (cond (not (elementListed code)) (record { answer = 7; text = text_of [] })
-    (record { answer = 0; text = pushedAll (text_of []) (lineText t code name) }))
+    cond (not (sound_table t)) (record { answer = 1; text = text_of [] })
+    (cond (not (element_listed code)) (record { answer = 7; text = text_of [] })
+    (record { answer = 0; text = pushed_all (text_of []) (line_text t code name) }))
 
 -- the columns, parted by tabs
-abbrev pub headingText : List ℕ
-headingText =
+abbrev pub heading_text : List ℕ
+heading_text =
     -- "code"
     (99 ∷ 111 ∷ 100 ∷ 101 ∷ []) ++
     -- "element"

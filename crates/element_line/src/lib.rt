@@ -1,8 +1,8 @@
 // A line of the element sheet: code, name, outages, what the rate is per, the rate and the mean outage, each as an exact fraction and with six digits, parted
 // by tabs; and the heading over the lines.
 ghost use Rattle.std.specs.Prelude.{◌≡◌};
-ghost use Rattle.text.specs.Text.{text_of, pushedAll};
-ghost use Rattle.element_line.specs.Listing.{fractionText, sixText, figureText, perText, lineText, line_of, headingText};
+ghost use Rattle.text.specs.Text.{text_of, pushed_all};
+ghost use Rattle.element_line.specs.Listing.{fraction_text, six_text, figure_text, per_text, line_text, line_of, heading_text};
 
 use decimal::Shown;
 use element_rates::Figure;
@@ -18,7 +18,7 @@ pub struct Line {
 
 // A fraction as n/d, or - where it is refused.
 fn with_fraction(t: Text, f: Figure) -> Text
-    ensures { result ≡ pushedAll t (fractionText f) }
+    ensures { result ≡ pushed_all t (fraction_text f) }
 {
     match f {
         Figure::Is(x) => t.with_number(x.top).with_byte(47).with_number(x.bottom),
@@ -28,7 +28,7 @@ fn with_fraction(t: Text, f: Figure) -> Text
 
 // A figure with six digits after the point, or - where it is refused.
 fn with_six(t: Text, s: Shown) -> Text
-    ensures { result ≡ pushedAll t (sixText s) }
+    ensures { result ≡ pushed_all t (six_text s) }
 {
     match s {
         Shown::Is(d) => t
@@ -43,14 +43,14 @@ fn with_six(t: Text, s: Shown) -> Text
 
 // A figure: a tab, the fraction, a tab, and the digits.
 fn with_figure(t: Text, f: Figure, s: Shown) -> Text
-    ensures { result ≡ pushedAll t (figureText f s) }
+    ensures { result ≡ pushed_all t (figure_text f s) }
 {
     with_six(with_fraction(t.with_byte(9), f).with_byte(9), s)
 }
 
 // What a rate is per, by the stock's mark: a piece, 100 km of a line, or - where no stock was told.
 fn with_per(t: Text, stock: u8) -> Text
-    ensures { result ≡ pushedAll t (perText stock) }
+    ensures { result ≡ pushed_all t (per_text stock) }
 {
     if stock == 0 {
         return t.with_byte(45);
@@ -103,7 +103,7 @@ pub fn line_of(table: Table, code: u16, name: &[u8]) -> Line
 
 // The heading of the sheet: what each column is. Means are in hours.
 pub fn heading() -> Text
-    ensures { result ≡ text_of headingText }
+    ensures { result ≡ text_of heading_text }
 {
     Text::empty().with_words(
         b"code\telement\toutages\tper\trate\trate, decimal\tmean, h\tmean, decimal\n",

@@ -10,79 +10,79 @@ use mathlib.Core.List.{List}
 use lib.Dec.{eqb}
 use lib.ListN.{length, get_or, take, drop}
 use borrow.Author.Tests.{eq-eqb}
-use Rattle.wire.specs.Cut.{recordsOf, joined}
-use Rattle.records.specs.Records.{isBroken}
-use Rattle.records.specs.Pieces.{mostRefused, Pieces, beginning, fed, fedAll}
-use Rattle.records.specs.Calls.{Call, pieces_of, afterCalls, Answered}
-use Rattle.records.proofs.AnswerLaws.{end-goes-on}
-use Rattle.records.proofs.HeldLaws.{Holding, begins-holding, held_on, held_whole, held-room, stays_fit}
-use Rattle.records.proofs.CallLaws.{GoesOn, calls-hold}
+use Rattle.wire.specs.Cut.{records_of, joined}
+use Rattle.records.specs.Records.{is_broken}
+use Rattle.records.specs.Pieces.{most_refused, Pieces, beginning, fed, fed_all}
+use Rattle.records.specs.Calls.{Call, pieces_of, after_calls, Answered}
+use Rattle.records.proofs.AnswerLaws.{end_goes_on}
+use Rattle.records.proofs.HeldLaws.{Holding, begins_holding, held_on_lem, held_whole, held_room, stays_fit}
+use Rattle.records.proofs.CallLaws.{GoesOn, calls_hold}
 use Rattle.element_table.specs.declared.Table.{Table}
 use Rattle.element_table.specs.declared.Filed.{Filed}
-use Rattle.element_table.specs.Table.{soundTable, seenAs}
-use Rattle.element_table.proofs.AnswerLaws.{file-begins, file-refused}
-use Rattle.element_table.proofs.SoundLaws.{marked-sound}
+use Rattle.element_table.specs.Table.{sound_table, seen_as}
+use Rattle.element_table.proofs.AnswerLaws.{file_begins, file_refused}
+use Rattle.element_table.proofs.SoundLaws.{marked_sound}
 use Rattle.element_file.specs.declared.Reading.{Reading}
-use Rattle.element_file.specs.Yearly.{FileState, starting, takeRecord, afterFile, fileOf}
-use Rattle.element_file.proofs.RunLaws.{record-sound, run_sound, file-through, refused-below}
+use Rattle.element_file.specs.Yearly.{FileState, starting, take_record, after_file, file_of}
+use Rattle.element_file.proofs.RunLaws.{record_sound, run_sound, file_through, refused_below}
 use Rattle.element_pieces.specs.declared.Inflow.{Inflow}
 use Rattle.element_pieces.specs.declared.Flowed.{Flowed}
-use Rattle.element_pieces.specs.Inflow.{fresh, begunOf, reading_of, flowAnswer, finishAnswer, bufferAfter, flowedOf, taker, finishedOf}
-use Rattle.element_pieces.proofs.FlowLaws.{flow-refused, flowed-on, table-sound, buffer-long}
+use Rattle.element_pieces.specs.Inflow.{fresh, begun_of, reading_of, flow_answer, finish_answer, buffer_after, flowed_of, taker, finished_of}
+use Rattle.element_pieces.proofs.FlowLaws.{flow_refused, flowed_on, table_sound, buffer_long}
 
-module _ (f : Inflow) (b : List ℕ) (filled : ℕ) (u : flowAnswer f b filled ≡ 0) where
+module _ (f : Inflow) (b : List ℕ) (filled : ℕ) (u : flow_answer f b filled ≡ 0) where
   -- the inflow after a call holds the reading with one piece more
-  pub flow-holds :
+  pub flow_holds :
       (p : Pieces FileState) →
-      Holding takeRecord (reading_of f) b p →
+      Holding take_record (reading_of f) b p →
       f.held ≤ filled →
-      Holding takeRecord (reading_of (flowedOf f b filled).flow) (bufferAfter f b filled) (fed takeRecord p (drop f.held (take filled b)))
-  flow-holds p h within =
-      let e = flowed-on f b filled u in
-      coe 0 1 (i. Holding takeRecord (reading_of (e.0 i).flow) (e.1 i) (fed takeRecord p (drop f.held (take filled b))))
-      (held_on takeRecord (reading_of f) b filled p h within (buffer-long f b filled u))
+      Holding take_record (reading_of (flowed_of f b filled).flow) (buffer_after f b filled) (fed take_record p (drop f.held (take filled b)))
+  flow_holds p h within =
+      let e = flowed_on f b filled u in
+      coe 0 1 (i. Holding take_record (reading_of (e.0 i).flow) (e.1 i) (fed take_record p (drop f.held (take filled b))))
+      (held_on_lem take_record (reading_of f) b filled p h within (buffer_long f b filled u))
 
   -- an inflow whose bytes are not dead holds fewer than 65,535 after a call
-  pub flow-has-room : ((i : ℕ) → get_or b i 0 < 256) → (flowedOf f b filled).flow.dead ≡ false → (flowedOf f b filled).flow.held < 65535
-  flow-has-room bytes after =
-      let e = (flowed-on f b filled u).0 in
-      let room = held-room takeRecord (reading_of f) b filled (buffer-long f b filled u) bytes (ap (λ (r : Flowed). r.flow.dead) e ∙ after) in
+  pub flow_has_room : ((i : ℕ) → get_or b i 0 < 256) → (flowed_of f b filled).flow.dead ≡ false → (flowed_of f b filled).flow.held < 65535
+  flow_has_room bytes after =
+      let e = (flowed_on f b filled u).0 in
+      let room = held_room take_record (reading_of f) b filled (buffer_long f b filled u) bytes (ap (λ (r : Flowed). r.flow.dead) e ∙ after) in
       omega (arith, room, ap (λ (r : Flowed). r.flow.held) e)
 
   -- a call that was answered 0 leaves the table sound and the buffer its size: a next one is refused only for its count of refused records (252) or for a
   -- `filled` past the buffer (253), and the end only for the count
   abbrev Fit : Flowed → List ℕ → Type 0
-  Fit r b₁ = (soundTable r.flow.table ≡ true) × (length b₁ ≡ length b)
+  Fit r b₁ = (sound_table r.flow.table ≡ true) × (length b₁ ≡ length b)
 
-  pub flow-stays-fit : Fit (flowedOf f b filled) (bufferAfter f b filled)
-  flow-stays-fit =
-      let e = flowed-on f b filled u in
+  pub flow_stays_fit : Fit (flowed_of f b filled) (buffer_after f b filled)
+  flow_stays_fit =
+      let e = flowed_on f b filled u in
       coe 0 1 (i. Fit (e.0 i) (e.1 i))
-      (stays_fit takeRecord (λ (st : FileState). soundTable st.table ≡ true) record-sound (reading_of f) b filled (buffer-long f b filled u) (table-sound f b filled u))
+      (stays_fit take_record (λ (st : FileState). sound_table st.table ≡ true) record_sound (reading_of f) b filled (buffer_long f b filled u) (table_sound f b filled u))
 
 -- an inflow that begins holds nothing; it is begun with the mark cleared
-pub begun-holding :
+pub begun_holding :
     (t : Table) (b : List ℕ) →
-    soundTable t ≡ true →
-    ((begunOf t).answer ≡ 0) × Holding takeRecord (reading_of (begunOf t).flow) b (beginning (starting (seenAs false t)))
-begun-holding t b s =
-    let e = file-begins t s in (
+    sound_table t ≡ true →
+    ((begun_of t).answer ≡ 0) × Holding take_record (reading_of (begun_of t).flow) b (beginning (starting (seen_as false t)))
+begun_holding t b s =
+    let e = file_begins t s in (
       ap (λ (x : Filed). x.answer) e,
-      subst (λ (x : Filed). Holding takeRecord (reading_of (fresh x.table)) b (beginning (starting (seenAs false t)))) (sym e)
-          (begins-holding takeRecord (starting (seenAs false t)) b),
+      subst (λ (x : Filed). Holding take_record (reading_of (fresh x.table)) b (beginning (starting (seen_as false t)))) (sym e)
+          (begins_holding take_record (starting (seen_as false t)) b),
     )
 
 -- with an unsound table none is begun, no piece is taken, and there is no outcome
-pub none-begun : (t : Table) → soundTable t ≡ false → begunOf t ≡ record { answer = 1; flow = fresh t }
-none-begun t s = ap (λ (x : Filed). record { answer = x.answer; flow = fresh x.table }) (file-refused t s)
+pub none_begun : (t : Table) → sound_table t ≡ false → begun_of t ≡ record { answer = 1; flow = fresh t }
+none_begun t s = ap (λ (x : Filed). record { answer = x.answer; flow = fresh x.table }) (file_refused t s)
 
-pub none-taken : (f : Inflow) (b : List ℕ) (filled : ℕ) → soundTable f.table ≡ false → (flowedOf f b filled ≡ record { answer = 1; flow = f }) × (bufferAfter f b filled ≡ b)
-unfolding flowedOf bufferAfter
-none-taken f b filled s = (rw s, rw s)
+pub none_taken : (f : Inflow) (b : List ℕ) (filled : ℕ) → sound_table f.table ≡ false → (flowed_of f b filled ≡ record { answer = 1; flow = f }) × (buffer_after f b filled ≡ b)
+unfolding flowed_of buffer_after
+none_taken f b filled s = (rw s, rw s)
 
-pub none-finished : (f : Inflow) → soundTable f.table ≡ false → finishedOf f ≡ record { answer = 1; table = f.table; refused = f.refused; broken = false }
-unfolding finishedOf
-none-finished f s = rw s
+pub none_finished : (f : Inflow) → sound_table f.table ≡ false → finished_of f ≡ record { answer = 1; table = f.table; refused = f.refused; broken = false }
+unfolding finished_of
+none_finished f s = rw s
 
 -- the outcome after all pieces is that of reading the whole file
 module _
@@ -90,63 +90,63 @@ module _
     (ps : List (List ℕ))
     (f : Inflow)
     (b : List ℕ)
-    (h : Holding takeRecord (reading_of f) b (fedAll takeRecord (beginning (starting (seenAs false t))) ps))
+    (h : Holding take_record (reading_of f) b (fed_all take_record (beginning (starting (seen_as false t))) ps))
   where
-    state-whole : (reading_of f).state ≡ afterFile t (joined ps)
-    state-whole = (held_whole takeRecord (starting (seenAs false t)) ps (reading_of f) b h).0
+    state_whole : (reading_of f).state ≡ after_file t (joined ps)
+    state_whole = (held_whole take_record (starting (seen_as false t)) ps (reading_of f) b h).0
 
     abbrev Outcome : FileState → Bool → Reading
     Outcome st broken = record { answer = 0; table = st.table; refused = st.refused + cond broken 1 0; broken = broken }
 
-    finish-either : (broken : Bool) → eqb f.held 0 ≡ not broken → finishAnswer f ≡ 0 → finishedOf f ≡ Outcome (reading_of f).state broken
-    unfolding finishedOf
-    finish-either true e a = let z = eq-eqb (finishAnswer f) 0 a in rw (z, e)
-    finish-either false e a =
-        let z = eq-eqb (finishAnswer f) 0 a in
+    finish_either : (broken : Bool) → eqb f.held 0 ≡ not broken → finish_answer f ≡ 0 → finished_of f ≡ Outcome (reading_of f).state broken
+    unfolding finished_of
+    finish_either true e a = let z = eq-eqb (finish_answer f) 0 a in rw (z, e)
+    finish_either false e a =
+        let z = eq-eqb (finish_answer f) 0 a in
         rw (z, e) (λ i. record { answer = 0; table = f.table; refused = sym (add-zero f.refused) i; broken = false })
 
     -- the table of a file that was taken into a sound one is sound
-    table-whole : soundTable t ≡ true → soundTable f.table ≡ true
-    table-whole s = ap (λ (st : FileState). soundTable st.table) state-whole ∙ run_sound (starting (seenAs false t)) (recordsOf (joined ps)) (marked-sound t false ∙ s)
+    table_whole : sound_table t ≡ true → sound_table f.table ≡ true
+    table_whole s = ap (λ (st : FileState). sound_table st.table) state_whole ∙ run_sound (starting (seen_as false t)) (records_of (joined ps)) (marked_sound t false ∙ s)
 
     -- where the table was sound and at most 2^62 records were refused, the outcome is that of the whole file in one call
-    pub finish-whole : f.refused ≤ mostRefused → soundTable t ≡ true → finishedOf f ≡ fileOf t (joined ps)
-    finish-whole few s =
-        finish-either (isBroken (joined ps)) (held_whole takeRecord (starting (seenAs false t)) ps (reading_of f) b h).1
-        (end-goes-on (soundTable f.table) f.refused (table-whole s) few) ∙
-        ap (λ (st : FileState). Outcome st (isBroken (joined ps))) state-whole ∙
-        sym (file-through t (joined ps) s)
+    pub finish_whole : f.refused ≤ most_refused → sound_table t ≡ true → finished_of f ≡ file_of t (joined ps)
+    finish_whole few s =
+        finish_either (is_broken (joined ps)) (held_whole take_record (starting (seen_as false t)) ps (reading_of f) b h).1
+        (end_goes_on (sound_table f.table) f.refused (table_whole s) few) ∙
+        ap (λ (st : FileState). Outcome st (is_broken (joined ps))) state_whole ∙
+        sym (file_through t (joined ps) s)
 
     -- of a file of at most 2^62 bytes no more records are refused than that
-    pub count_fits : length (joined ps) ≤ mostRefused → f.refused ≤ mostRefused
+    pub count_fits : length (joined ps) ≤ most_refused → f.refused ≤ most_refused
     count_fits short =
-        let same : f.refused ≡ (afterFile t (joined ps)).refused = ap (λ (st : FileState). st.refused) state-whole in
-        omega (arith, refused-below (seenAs false t) (joined ps))
+        let same : f.refused ≡ (after_file t (joined ps)).refused = ap (λ (st : FileState). st.refused) state_whole in
+        omega (arith, refused_below (seen_as false t) (joined ps))
 
 -- any run of calls
-pub goes_on : GoesOn takeRecord taker reading_of
+pub goes_on : GoesOn take_record taker reading_of
 goes_on =
     record {
       holds = λ f. refl;
-      next = λ f c zero. let e = flowed-on f c.buffer c.filled zero in λ i. reading_of (sym e.0 i).flow;
-      left = λ f c zero. sym (flowed-on f c.buffer c.filled zero).1;
-      room = λ f c zero. buffer-long f c.buffer c.filled zero;
+      next = λ f c zero. let e = flowed_on f c.buffer c.filled zero in λ i. reading_of (sym e.0 i).flow;
+      left = λ f c zero. sym (flowed_on f c.buffer c.filled zero).1;
+      room = λ f c zero. buffer_long f c.buffer c.filled zero;
     }
 
 -- a call that is refused changes nothing
 pub stays : (f : Inflow) (c : Call) → (taker.answer f c ≡ 0 → ⊥) → (taker.next f c ≡ f) × (taker.left f c ≡ c.buffer)
-stays f c not-zero = let e = flow-refused f c.buffer c.filled not-zero in (λ i. (sym e.0 i).flow, sym e.1)
+stays f c not-zero = let e = flow_refused f c.buffer c.filled not-zero in (λ i. (sym e.0 i).flow, sym e.1)
 
 module _ (t : Table) (b : List ℕ) (cs : List Call) where
   abbrev pub begun : Inflow
-  begun = (begunOf t).flow
+  begun = (begun_of t).flow
 
   abbrev pub file : List ℕ
   file = joined (pieces_of taker begun cs)
 
   -- the outcome is that of the whole file, where it has at most 2^62 bytes
-  pub calls-whole : soundTable t ≡ true → Answered taker begun b cs → length file ≤ mostRefused → finishedOf (afterCalls taker begun cs) ≡ fileOf t file
-  calls-whole sound answered short =
+  pub calls_whole : sound_table t ≡ true → Answered taker begun b cs → length file ≤ most_refused → finished_of (after_calls taker begun cs) ≡ file_of t file
+  calls_whole sound answered short =
       let ps = pieces_of taker begun cs in
-      let (b₁, h) = calls-hold takeRecord taker reading_of goes_on begun b cs _ (begun-holding t b sound).1 answered in
-      finish-whole t ps (afterCalls taker begun cs) b₁ h (count_fits t ps (afterCalls taker begun cs) b₁ h short) sound
+      let (b₁, h) = calls_hold take_record taker reading_of goes_on begun b cs _ (begun_holding t b sound).1 answered in
+      finish_whole t ps (after_calls taker begun cs) b₁ h (count_fits t ps (after_calls taker begun cs) b₁ h short) sound

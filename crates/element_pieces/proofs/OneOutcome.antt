@@ -8,11 +8,11 @@ use Rattle.element_pieces.proofs.take_piece.Reads as take-piece
 use Rattle.element_pieces.proofs.finish.Kinds as finish-kinds
 use Rattle.element_pieces.proofs.finish.Reads as finish
 
-pub begin-one : OneOutcome begin-kinds.ps begin-kinds.r begin.Post
-begin-one κs a x y v w p q = (alike p q, refl)
+pub begin_one : OneOutcome begin-kinds.ps begin-kinds.r begin.Post
+begin_one κs a x y v w p q = (alike p q, refl)
 
-pub take-piece-one : OneOutcome take-piece-kinds.ps take-piece-kinds.r take-piece.Post
-take-piece-one κs a x y v w p q = (alike p.0 q.0, λ i. (tt, (alike p.1 q.1 i, (tt, tt))))
+pub take_piece_one : OneOutcome take-piece-kinds.ps take-piece-kinds.r take-piece.Post
+take_piece_one κs a x y v w p q = (alike p.0 q.0, λ i. (tt, (alike p.1 q.1 i, (tt, tt))))
 
-pub finish-one : OneOutcome finish-kinds.ps finish-kinds.r finish.Post
-finish-one κs a x y v w p q = (alike p q, refl)
+pub finish_one : OneOutcome finish-kinds.ps finish-kinds.r finish.Post
+finish_one κs a x y v w p q = (alike p q, refl)

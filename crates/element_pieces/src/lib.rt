@@ -1,7 +1,7 @@
 // Taking a yearly file in pieces as they arrive: the whole records of what has arrived are taken, and the bytes of a record
 // that is not whole yet are kept at the front of a lent buffer.
 ghost use Rattle.std.specs.Prelude.{◌≡◌};
-ghost use Rattle.element_pieces.specs.Inflow.{begunOf, flowedOf, bufferAfter, finishedOf};
+ghost use Rattle.element_pieces.specs.Inflow.{begun_of, flowed_of, buffer_after, finished_of};
 
 use element_file::Reading;
 use element_table::Table;
@@ -25,7 +25,7 @@ pub struct Flowed {
 
 // Begins a file: its year sheet is yet to be seen, and nothing is held. 1 for an unsound table, into which no piece is taken.
 pub fn begin(table: Table) -> Flowed
-    ensures { result ≡ begunOf table }
+    ensures { result ≡ begun_of table }
 {
     let begun = table.begin_file();
     let cleared = begun.table;
@@ -43,7 +43,7 @@ pub fn begin(table: Table) -> Flowed
 // Takes the whole records among the first `filled` bytes of the buffer. Nothing is changed where the answer is not 0: 1 for an unsound table,
 // `records::MANY_REFUSED` for a count of refused records above `records::MOST_REFUSED`, `records::MORE_TOLD` for a buffer that is shorter than `filled`.
 pub fn take_piece(f: Inflow, buffer: &mut [u8], filled: usize) -> Flowed
-    ensures { (result ≡ flowedOf f buffer.old filled) × (buffer.new ≡ bufferAfter f buffer.old filled) }
+    ensures { (result ≡ flowed_of f buffer.old filled) × (buffer.new ≡ buffer_after f buffer.old filled) }
 {
     let t = f.table;
     let sound = t.sound();
@@ -72,7 +72,7 @@ pub fn take_piece(f: Inflow, buffer: &mut [u8], filled: usize) -> Flowed
 // The outcome once the input has ended: what is left over is a broken length, and counts as one refusal. 1 for an unsound table, `records::MANY_REFUSED` for a
 // count of refused records above `records::MOST_REFUSED`.
 pub fn finish(f: Inflow) -> Reading
-    ensures { result ≡ finishedOf f }
+    ensures { result ≡ finished_of f }
 {
     let t = f.table;
     let sound = t.sound();

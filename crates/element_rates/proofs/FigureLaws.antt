@@ -5,13 +5,13 @@ use mathlib.Core.Path.{◌≡◌, refl}
 use mathlib.Core.Bool.{Bool, true, false, ◌||◌, not, cond}
 use lib.Dec.{eqb}
 use Rattle.ratio.specs.declared.Fraction.{Fraction}
-use Rattle.ratio.specs.Lowest.{lowestOf}
-use Rattle.element_codes.specs.Elements.{elementListed}
+use Rattle.ratio.specs.Lowest.{lowest_of}
+use Rattle.element_codes.specs.Elements.{element_listed}
 use Rattle.element_table.specs.declared.Table.{Table}
-use Rattle.element_table.specs.Table.{soundTable}
+use Rattle.element_table.specs.Table.{sound_table}
 use Rattle.element_rates.specs.declared.Figure.{Figure}
 use Rattle.element_rates.specs.declared.Figure.TheVariants.{Is, Refused}
-use Rattle.element_rates.specs.Rates.{row_at, weightOf, rateOf, meanOf}
+use Rattle.element_rates.specs.Rates.{row_at, weight_of, rate_of, mean_of}
 
 -- a fraction, but 1 for an unsound table, 7 for an unknown code and 17 where it divides by 0
 abbrev pub figure : Bool → Bool → Bool → Fraction → Figure
@@ -19,51 +19,51 @@ figure sound known by-0 f = cond (not sound) (Refused 1) (cond (not known) (Refu
 
 module _ (t : Table) (code : ℕ) where
   -- a rate divides by pieces or length, and there are none without stock
-  abbrev pub rateBy0 : Bool
-  rateBy0 = eqb (row_at t code).stock 0 || eqb (row_at t code).amount 0
+  abbrev pub rate_by0 : Bool
+  rate_by0 = eqb (row_at t code).stock 0 || eqb (row_at t code).amount 0
 
-  abbrev pub rateIn : Fraction
-  rateIn = lowestOf (weightOf (row_at t code).stock * (row_at t code).outages) ((row_at t code).amount * t.period)
+  abbrev pub rate_in : Fraction
+  rate_in = lowest_of (weight_of (row_at t code).stock * (row_at t code).outages) ((row_at t code).amount * t.period)
 
   -- a mean divides by outages
-  abbrev pub meanBy0 : Bool
-  meanBy0 = eqb (row_at t code).outages 0
+  abbrev pub mean_by0 : Bool
+  mean_by0 = eqb (row_at t code).outages 0
 
-  abbrev pub meanIn : Fraction
-  meanIn = lowestOf (row_at t code).minutes (60 * (row_at t code).outages)
+  abbrev pub mean_in : Fraction
+  mean_in = lowest_of (row_at t code).minutes (60 * (row_at t code).outages)
 
   -- a rate and a mean are such figures, by soundness, the list of codes, and whether what they divide by is 0
-  pub rate-is : rateOf t code ≡ figure (soundTable t) (elementListed code) rateBy0 rateIn
-  unfolding rateOf
-  rate-is = refl
+  pub rate_is : rate_of t code ≡ figure (sound_table t) (element_listed code) rate_by0 rate_in
+  unfolding rate_of
+  rate_is = refl
 
-  pub mean-is : meanOf t code ≡ figure (soundTable t) (elementListed code) meanBy0 meanIn
-  unfolding meanOf
-  mean-is = refl
+  pub mean_is : mean_of t code ≡ figure (sound_table t) (element_listed code) mean_by0 mean_in
+  unfolding mean_of
+  mean_is = refl
 
   -- so each of the four ways by itself
-  pub unsound-refused : soundTable t ≡ false → (rateOf t code ≡ Refused 1) × (meanOf t code ≡ Refused 1)
-  unfolding rateOf meanOf
-  unsound-refused s = (rw s, rw s)
+  pub unsound_refused : sound_table t ≡ false → (rate_of t code ≡ Refused 1) × (mean_of t code ≡ Refused 1)
+  unfolding rate_of mean_of
+  unsound_refused s = (rw s, rw s)
 
-  module _ (s : soundTable t ≡ true) where
-    pub unknown-refused : elementListed code ≡ false → (rateOf t code ≡ Refused 7) × (meanOf t code ≡ Refused 7)
-    unfolding rateOf meanOf
-    unknown-refused k = (rw (s, k), rw (s, k))
+  module _ (s : sound_table t ≡ true) where
+    pub unknown_refused : element_listed code ≡ false → (rate_of t code ≡ Refused 7) × (mean_of t code ≡ Refused 7)
+    unfolding rate_of mean_of
+    unknown_refused k = (rw (s, k), rw (s, k))
 
-    module _ (k : elementListed code ≡ true) where
-      pub rate-refused : rateBy0 ≡ true → rateOf t code ≡ Refused 17
-      unfolding rateOf
-      rate-refused z = rw (s, k, z)
+    module _ (k : element_listed code ≡ true) where
+      pub rate_refused : rate_by0 ≡ true → rate_of t code ≡ Refused 17
+      unfolding rate_of
+      rate_refused z = rw (s, k, z)
 
-      pub rate-answered : rateBy0 ≡ false → rateOf t code ≡ Is rateIn
-      unfolding rateOf
-      rate-answered z = rw (s, k, z)
+      pub rate_answered : rate_by0 ≡ false → rate_of t code ≡ Is rate_in
+      unfolding rate_of
+      rate_answered z = rw (s, k, z)
 
-      pub mean-refused : meanBy0 ≡ true → meanOf t code ≡ Refused 17
-      unfolding meanOf
-      mean-refused z = rw (s, k, z)
+      pub mean_refused : mean_by0 ≡ true → mean_of t code ≡ Refused 17
+      unfolding mean_of
+      mean_refused z = rw (s, k, z)
 
-      pub mean-answered : meanBy0 ≡ false → meanOf t code ≡ Is meanIn
-      unfolding meanOf
-      mean-answered z = rw (s, k, z)
+      pub mean_answered : mean_by0 ≡ false → mean_of t code ≡ Is mean_in
+      unfolding mean_of
+      mean_answered z = rw (s, k, z)

@@ -10,14 +10,14 @@ use Rattle.element_rates.proofs.shown_rate.Reads as shown-rate
 use Rattle.element_rates.proofs.shown_mean.Kinds as shown-mean-kinds
 use Rattle.element_rates.proofs.shown_mean.Reads as shown-mean
 
-pub rate-of-one : OneOutcome rate-of-kinds.ps rate-of-kinds.r rate-of.Post
-rate-of-one κs a x y v w p q = (alike p q, refl)
+pub rate_of_one : OneOutcome rate-of-kinds.ps rate-of-kinds.r rate-of.Post
+rate_of_one κs a x y v w p q = (alike p q, refl)
 
-pub mean-of-one : OneOutcome mean-of-kinds.ps mean-of-kinds.r mean-of.Post
-mean-of-one κs a x y v w p q = (alike p q, refl)
+pub mean_of_one : OneOutcome mean-of-kinds.ps mean-of-kinds.r mean-of.Post
+mean_of_one κs a x y v w p q = (alike p q, refl)
 
-pub shown-rate-one : OneOutcome shown-rate-kinds.ps shown-rate-kinds.r shown-rate.Post
-shown-rate-one κs a x y v w p q = (alike p q, refl)
+pub shown_rate_one : OneOutcome shown-rate-kinds.ps shown-rate-kinds.r shown-rate.Post
+shown_rate_one κs a x y v w p q = (alike p q, refl)
 
-pub shown-mean-one : OneOutcome shown-mean-kinds.ps shown-mean-kinds.r shown-mean.Post
-shown-mean-one κs a x y v w p q = (alike p q, refl)
+pub shown_mean_one : OneOutcome shown-mean-kinds.ps shown-mean-kinds.r shown-mean.Post
+shown_mean_one κs a x y v w p q = (alike p q, refl)

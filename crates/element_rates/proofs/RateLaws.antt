@@ -6,95 +6,95 @@ use mathlib.Core.Bool.{true}
 use native.Mathlib.Nat.{mul-one, one-mul, mul-pos, mul_comm}
 use native.Mathlib.Omega.{arith}
 use borrow.Author.Tests.{ne_eqb}
-use Rattle.base.proofs.TestLaws.{or-both}
+use Rattle.base.proofs.TestLaws.{or_both}
 use Rattle.ratio.specs.declared.Fraction.{Fraction}
-use Rattle.ratio.specs.Lowest.{Lowest, lowestOf}
-use Rattle.ratio.proofs.Euclid.{lowest-same, lowest-lowest, lowest-decides}
-use Rattle.element_codes.specs.Elements.{elementListed}
+use Rattle.ratio.specs.Lowest.{Lowest, lowest_of}
+use Rattle.ratio.proofs.Euclid.{lowest_same, lowest_lowest, lowest_decides}
+use Rattle.element_codes.specs.Elements.{element_listed}
 use Rattle.element_row.specs.declared.Row.{Row}
 use Rattle.element_table.specs.declared.Table.{Table}
-use Rattle.element_table.specs.Table.{soundTable}
-use Rattle.element_table.proofs.BoundLaws.{sound-period}
+use Rattle.element_table.specs.Table.{sound_table}
+use Rattle.element_table.proofs.BoundLaws.{sound_period}
 use Rattle.element_rates.specs.declared.Figure.{Figure}
 use Rattle.element_rates.specs.declared.Figure.TheVariants.{Is}
-use Rattle.element_rates.specs.Rates.{row_at, weightOf, rateOf, meanOf, intensity, lineIntensity, meanHours, Exact}
-use Rattle.element_rates.proofs.FigureLaws.{rateIn, meanIn, rate-answered, mean-answered}
-use Rattle.element_rates.proofs.ExactlyThen.{rate-exactly-fraction, mean-exactly-fraction}
+use Rattle.element_rates.specs.Rates.{row_at, weight_of, rate_of, mean_of, intensity, line_intensity, mean_hours, Exact}
+use Rattle.element_rates.proofs.FigureLaws.{rate_in, mean_in, rate_answered, mean_answered}
+use Rattle.element_rates.proofs.ExactlyThen.{rate_exactly_fraction, mean_exactly_fraction}
 
 -- so it is where the figure is n / d in lowest terms, and the formula comes to n / d
-exactly : (a : Figure) (formula : Fraction) (n d : ℕ) → a ≡ Is (lowestOf n d) → formula ≡ record { top = n; bottom = d } → 0 < d → Exact a formula
+exactly : (a : Figure) (formula : Fraction) (n d : ℕ) → a ≡ Is (lowest_of n d) → formula ≡ record { top = n; bottom = d } → 0 < d → Exact a formula
 exactly a formula n d e f p =
     record {
-      fraction = lowestOf n d;
+      fraction = lowest_of n d;
       is = e;
-      lowest = lowest-lowest n d p;
-      same = rw f (lowest-same n d);
+      lowest = lowest_lowest n d p;
+      same = rw f (lowest_same n d);
       exists = λ z. (let b : d ≡ 0 = sym (ap (λ (g : Fraction). g.bottom) f) ∙ z in omega arith);
-      only = λ g l s. lowest-decides n d p g l (rw f at s);
+      only = λ g l s. lowest_decides n d p g l (rw f at s);
     }
 
 -- the formulas of section 5, each as one fraction
-pub pieces-come-to : (n z p : ℕ) → intensity n z p ≡ record { top = 1 * n; bottom = z * p }
-pieces-come-to n z p = λ i. record { top = (mul-one n ∙ sym (one-mul n)) i; bottom = one-mul (z * p) i }
+pub pieces_come_to : (n z p : ℕ) → intensity n z p ≡ record { top = 1 * n; bottom = z * p }
+pieces_come_to n z p = λ i. record { top = (mul-one n ∙ sym (one-mul n)) i; bottom = one-mul (z * p) i }
 
-pub lines-come-to : (n tenths p : ℕ) → lineIntensity n tenths p ≡ record { top = 1000 * n; bottom = tenths * p }
-lines-come-to n tenths p =
+pub lines_come_to : (n tenths p : ℕ) → line_intensity n tenths p ≡ record { top = 1000 * n; bottom = tenths * p }
+lines_come_to n tenths p =
     λ i. record { top = mul_comm n 1000 i; bottom = (one-mul (tenths * 1 * p) ∙ ap (λ (x : ℕ). x * p) (mul-one tenths)) i }
 
-pub mean-comes-to : (minutes n : ℕ) → meanHours minutes n ≡ record { top = minutes; bottom = 60 * n }
-mean-comes-to minutes n = λ i. record { top = mul-one minutes i; bottom = 60 * n }
+pub mean_comes_to : (minutes n : ℕ) → mean_hours minutes n ≡ record { top = minutes; bottom = 60 * n }
+mean_comes_to minutes n = λ i. record { top = mul-one minutes i; bottom = 60 * n }
 
-module _ (t : Table) (code : ℕ) (sound : soundTable t ≡ true) (known : elementListed code ≡ true) where
+module _ (t : Table) (code : ℕ) (sound : sound_table t ≡ true) (known : element_listed code ≡ true) where
   abbrev row : Row
   row = row_at t code
 
-  divisor-exists : (row.amount ≡ 0 → ⊥) → 0 < row.amount * t.period
-  divisor-exists some = let years = sound-period t sound in mul-pos {m = row.amount} {n = t.period} (omega arith) (omega arith)
+  divisor_exists : (row.amount ≡ 0 → ⊥) → 0 < row.amount * t.period
+  divisor_exists some = let years = sound_period t sound in mul-pos {m = row.amount} {n = t.period} (omega arith) (omega arith)
 
   weighted : (stock : ℕ) → row.stock ≡ stock → (stock ≡ 0 → ⊥) → (row.amount ≡ 0 → ⊥) →
-      rateOf t code ≡ Is (lowestOf (weightOf stock * row.outages) (row.amount * t.period))
+      rate_of t code ≡ Is (lowest_of (weight_of stock * row.outages) (row.amount * t.period))
   weighted stock e marked some =
-      rate-answered t code sound known
-      (or-both _ _ (ne_eqb row.stock 0 (λ z. marked (sym e ∙ z))) (ne_eqb row.amount 0 some)) ∙
-      (λ i. Is (lowestOf (weightOf (e i) * row.outages) (row.amount * t.period)))
+      rate_answered t code sound known
+      (or_both _ _ (ne_eqb row.stock 0 (λ z. marked (sym e ∙ z))) (ne_eqb row.amount 0 some)) ∙
+      (λ i. Is (lowest_of (weight_of (e i) * row.outages) (row.amount * t.period)))
 
   -- λ = N / (Z · P), for a year
-  pub pieces-rate : row.stock ≡ 1 → (row.amount ≡ 0 → ⊥) → Exact (rateOf t code) (intensity row.outages row.amount t.period)
-  pieces-rate e some =
-      exactly (rateOf t code) (intensity row.outages row.amount t.period) (1 * row.outages) (row.amount * t.period)
+  pub pieces_rate : row.stock ≡ 1 → (row.amount ≡ 0 → ⊥) → Exact (rate_of t code) (intensity row.outages row.amount t.period)
+  pieces_rate e some =
+      exactly (rate_of t code) (intensity row.outages row.amount t.period) (1 * row.outages) (row.amount * t.period)
       (weighted 1 e (λ z. omega arith) some)
-      (pieces-come-to row.outages row.amount t.period)
-      (divisor-exists some)
+      (pieces_come_to row.outages row.amount t.period)
+      (divisor_exists some)
 
   -- λ = N / (l · 0,01 · P), for a year and 100 km
-  pub line-rate : row.stock ≡ 2 → (row.amount ≡ 0 → ⊥) → Exact (rateOf t code) (lineIntensity row.outages row.amount t.period)
-  line-rate e some =
-      exactly (rateOf t code) (lineIntensity row.outages row.amount t.period) (1000 * row.outages) (row.amount * t.period)
+  pub line_rate : row.stock ≡ 2 → (row.amount ≡ 0 → ⊥) → Exact (rate_of t code) (line_intensity row.outages row.amount t.period)
+  line_rate e some =
+      exactly (rate_of t code) (line_intensity row.outages row.amount t.period) (1000 * row.outages) (row.amount * t.period)
       (weighted 2 e (λ z. omega arith) some)
-      (lines-come-to row.outages row.amount t.period)
-      (divisor-exists some)
+      (lines_come_to row.outages row.amount t.period)
+      (divisor_exists some)
 
   -- T = Σ t / N, in hours
-  pub mean-hours : (row.outages ≡ 0 → ⊥) → Exact (meanOf t code) (meanHours row.minutes row.outages)
-  mean-hours some =
-      exactly (meanOf t code) (meanHours row.minutes row.outages) row.minutes (60 * row.outages)
-      (mean-answered t code sound known (ne_eqb row.outages 0 some))
-      (mean-comes-to row.minutes row.outages)
+  pub mean_hours_lem : (row.outages ≡ 0 → ⊥) → Exact (mean_of t code) (mean_hours row.minutes row.outages)
+  mean_hours_lem some =
+      exactly (mean_of t code) (mean_hours row.minutes row.outages) row.minutes (60 * row.outages)
+      (mean_answered t code sound known (ne_eqb row.outages 0 some))
+      (mean_comes_to row.minutes row.outages)
       (omega arith)
 
 -- whatever fraction is answered is in lowest terms
 module _ (t : Table) (code : ℕ) (f : Fraction) where
-  pub rate-lowest : rateOf t code ≡ Is f → Lowest f
-  rate-lowest e =
-      let g = (rate-exactly-fraction t code).0 (f, e) in
-      let answered = rate-answered t code g.0 g.1 (or-both _ _ (ne_eqb (row_at t code).stock 0 g.2) (ne_eqb (row_at t code).amount 0 g.3)) in
-      let same : f ≡ rateIn t code = cc in
-      rw same (lowest-lowest _ _ (divisor-exists t code g.0 g.1 g.3))
+  pub rate_lowest : rate_of t code ≡ Is f → Lowest f
+  rate_lowest e =
+      let g = (rate_exactly_fraction t code).0 (f, e) in
+      let answered = rate_answered t code g.0 g.1 (or_both _ _ (ne_eqb (row_at t code).stock 0 g.2) (ne_eqb (row_at t code).amount 0 g.3)) in
+      let same : f ≡ rate_in t code = cc in
+      rw same (lowest_lowest _ _ (divisor_exists t code g.0 g.1 g.3))
 
-  pub mean-lowest : meanOf t code ≡ Is f → Lowest f
-  mean-lowest e =
-      let g = (mean-exactly-fraction t code).0 (f, e) in
+  pub mean_lowest : mean_of t code ≡ Is f → Lowest f
+  mean_lowest e =
+      let g = (mean_exactly_fraction t code).0 (f, e) in
       let some : (row_at t code).outages ≡ 0 → ⊥ = g.2 in
-      let answered = mean-answered t code g.0 g.1 (ne_eqb (row_at t code).outages 0 g.2) in
-      let same : f ≡ meanIn t code = cc in
-      rw same (lowest-lowest _ _ (omega arith))
+      let answered = mean_answered t code g.0 g.1 (ne_eqb (row_at t code).outages 0 g.2) in
+      let same : f ≡ mean_in t code = cc in
+      rw same (lowest_lowest _ _ (omega arith))

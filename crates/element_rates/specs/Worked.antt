@@ -2,17 +2,17 @@
 use Rattle.std.specs.Prelude.{ℕ, ◌≡◌, List, [], ◌∷◌, true, set, replicate}
 use Rattle.base.specs.Lists.{All}
 use Rattle.decimal.specs.Decimal.{decimally}
-use Rattle.element_codes.specs.Elements.{elementCount, rowOf}
+use Rattle.element_codes.specs.Elements.{element_count, row_of}
 use Rattle.element_row.specs.declared.Row.{Row}
 use Rattle.element_table.specs.declared.Table.{Table}
 use Rattle.element_row.specs.Row.{no_row}
 use Rattle.element_rates.specs.declared.Figure.{Figure}
 use Rattle.element_rates.specs.declared.Figure.TheVariants.{Is, Refused}
-use Rattle.element_rates.specs.Rates.{rateOf, meanOf, shownRate, shownMean}
+use Rattle.element_rates.specs.Rates.{rate_of, mean_of, shown_rate, shown_mean}
 
 -- a table of so many years that knows of one element
 abbrev pub table_of : ℕ → ℕ → Row → Table
-table_of period code r = record { period = period; seen = true; rows = set (replicate elementCount no_row) (rowOf code) r }
+table_of period code r = record { period = period; seen = true; rows = set (replicate element_count no_row) (row_of code) r }
 
 -- outages with their minutes; pieces; a line in tenths of a kilometre; no stock told
 abbrev pub pieces : ℕ → ℕ → ℕ → Row
@@ -40,46 +40,46 @@ exactly (Refused n) = n ∷ []
 -- a case: what is computed, and what comes out
 pub record Case : Type 0 where
   pub computed : List ℕ
-  pub comes-out : List ℕ
+  pub comes_out : List ℕ
 
 -- 3 / (40 x 5) for a year; 7 / (12.5 x 0.01 x 2) for a year and 100 km; 400 minutes over 3 outages in hours
 abbrev pub figures : List Case
 figures =
-    (record { computed = exactly (rateOf transformers 15); comes-out = 0 ∷ 3 ∷ 200 ∷ [] }) ∷
-    (record { computed = exactly (rateOf cable 6); comes-out = 0 ∷ 28 ∷ 1 ∷ [] }) ∷
-    (record { computed = exactly (meanOf transformers 15); comes-out = 0 ∷ 20 ∷ 9 ∷ [] }) ∷
-    (record { computed = exactly (meanOf cable 6); comes-out = 0 ∷ 6 ∷ 1 ∷ [] }) ∷ []
+    (record { computed = exactly (rate_of transformers 15); comes_out = 0 ∷ 3 ∷ 200 ∷ [] }) ∷
+    (record { computed = exactly (rate_of cable 6); comes_out = 0 ∷ 28 ∷ 1 ∷ [] }) ∷
+    (record { computed = exactly (mean_of transformers 15); comes_out = 0 ∷ 20 ∷ 9 ∷ [] }) ∷
+    (record { computed = exactly (mean_of cable 6); comes_out = 0 ∷ 6 ∷ 1 ∷ [] }) ∷ []
 
 -- the same with 6 digits
 abbrev pub decimals : List Case
 decimals =
-    (record { computed = decimally (shownRate transformers 15 6); comes-out = 0 ∷ 0 ∷ 15000 ∷ [] }) ∷
-    (record { computed = decimally (shownRate cable 6 6); comes-out = 0 ∷ 28 ∷ 0 ∷ [] }) ∷
-    (record { computed = decimally (shownMean transformers 15 6); comes-out = 0 ∷ 2 ∷ 222222 ∷ [] }) ∷
-    (record { computed = decimally (shownMean cable 6 6); comes-out = 0 ∷ 6 ∷ 0 ∷ [] }) ∷ []
+    (record { computed = decimally (shown_rate transformers 15 6); comes_out = 0 ∷ 0 ∷ 15000 ∷ [] }) ∷
+    (record { computed = decimally (shown_rate cable 6 6); comes_out = 0 ∷ 28 ∷ 0 ∷ [] }) ∷
+    (record { computed = decimally (shown_mean transformers 15 6); comes_out = 0 ∷ 2 ∷ 222222 ∷ [] }) ∷
+    (record { computed = decimally (shown_mean cable 6 6); comes_out = 0 ∷ 6 ∷ 0 ∷ [] }) ∷ []
 
 -- 17 of a rate: no stock told, 0 pieces, a line of no length; of a mean: no outage. The other figure is there. Without outages a rate is 0/1
 abbrev pub divided : List Case
 divided =
-    (record { computed = exactly (rateOf (table_of 5 15 (untold 3 400)) 15); comes-out = 17 ∷ [] }) ∷
-    (record { computed = exactly (meanOf (table_of 5 15 (untold 3 400)) 15); comes-out = 0 ∷ 20 ∷ 9 ∷ [] }) ∷
-    (record { computed = exactly (rateOf (table_of 5 15 (pieces 3 400 0)) 15); comes-out = 17 ∷ [] }) ∷
-    (record { computed = exactly (rateOf (table_of 2 6 (line 7 2520 0)) 6); comes-out = 17 ∷ [] }) ∷
-    (record { computed = exactly (meanOf (table_of 5 15 (pieces 0 0 40)) 15); comes-out = 17 ∷ [] }) ∷
-    (record { computed = exactly (rateOf (table_of 5 15 (pieces 0 0 40)) 15); comes-out = 0 ∷ 0 ∷ 1 ∷ [] }) ∷ []
+    (record { computed = exactly (rate_of (table_of 5 15 (untold 3 400)) 15); comes_out = 17 ∷ [] }) ∷
+    (record { computed = exactly (mean_of (table_of 5 15 (untold 3 400)) 15); comes_out = 0 ∷ 20 ∷ 9 ∷ [] }) ∷
+    (record { computed = exactly (rate_of (table_of 5 15 (pieces 3 400 0)) 15); comes_out = 17 ∷ [] }) ∷
+    (record { computed = exactly (rate_of (table_of 2 6 (line 7 2520 0)) 6); comes_out = 17 ∷ [] }) ∷
+    (record { computed = exactly (mean_of (table_of 5 15 (pieces 0 0 40)) 15); comes_out = 17 ∷ [] }) ∷
+    (record { computed = exactly (rate_of (table_of 5 15 (pieces 0 0 40)) 15); comes_out = 0 ∷ 0 ∷ 1 ∷ [] }) ∷ []
 
 -- 1 before 7, 7 before 17, 17 before 18: no period, a code that 9.8 does not list, seven digits
 abbrev pub refused : List Case
 refused =
-    (record { computed = exactly (rateOf (table_of 0 15 (pieces 3 400 40)) 31); comes-out = 1 ∷ [] }) ∷
-    (record { computed = exactly (meanOf (table_of 0 15 (pieces 3 400 40)) 31); comes-out = 1 ∷ [] }) ∷
-    (record { computed = exactly (rateOf transformers 31); comes-out = 7 ∷ [] }) ∷
-    (record { computed = exactly (meanOf transformers 31); comes-out = 7 ∷ [] }) ∷
-    (record { computed = decimally (shownRate cable 15 7); comes-out = 17 ∷ [] }) ∷
-    (record { computed = decimally (shownMean cable 15 7); comes-out = 17 ∷ [] }) ∷
-    (record { computed = decimally (shownRate cable 6 7); comes-out = 18 ∷ [] }) ∷
-    (record { computed = decimally (shownMean cable 6 7); comes-out = 18 ∷ [] }) ∷ []
+    (record { computed = exactly (rate_of (table_of 0 15 (pieces 3 400 40)) 31); comes_out = 1 ∷ [] }) ∷
+    (record { computed = exactly (mean_of (table_of 0 15 (pieces 3 400 40)) 31); comes_out = 1 ∷ [] }) ∷
+    (record { computed = exactly (rate_of transformers 31); comes_out = 7 ∷ [] }) ∷
+    (record { computed = exactly (mean_of transformers 31); comes_out = 7 ∷ [] }) ∷
+    (record { computed = decimally (shown_rate cable 15 7); comes_out = 17 ∷ [] }) ∷
+    (record { computed = decimally (shown_mean cable 15 7); comes_out = 17 ∷ [] }) ∷
+    (record { computed = decimally (shown_rate cable 6 7); comes_out = 18 ∷ [] }) ∷
+    (record { computed = decimally (shown_mean cable 6 7); comes_out = 18 ∷ [] }) ∷ []
 
 -- each comes out as it is said
 abbrev pub Right : List Case → Type 0
-Right = All (λ (c : Case). c.computed ≡ c.comes-out)
+Right = All (λ (c : Case). c.computed ≡ c.comes_out)

@@ -10,14 +10,14 @@ use Rattle.element_row.proofs.Row.with_stock.Reads as with-stock
 use Rattle.element_row.proofs.Row.within.Kinds as within-kinds
 use Rattle.element_row.proofs.Row.within.Reads as within
 
-pub none-one : OneOutcome none-kinds.ps none-kinds.r none.Post
-none-one κs a x y v w p q = (alike p q, refl)
+pub none_one : OneOutcome none-kinds.ps none-kinds.r none.Post
+none_one κs a x y v w p q = (alike p q, refl)
 
-pub with-outage-one : OneOutcome with-outage-kinds.ps with-outage-kinds.r with-outage.Post
-with-outage-one κs a x y v w p q = (alike p q, refl)
+pub with_outage_one : OneOutcome with-outage-kinds.ps with-outage-kinds.r with-outage.Post
+with_outage_one κs a x y v w p q = (alike p q, refl)
 
-pub with-stock-one : OneOutcome with-stock-kinds.ps with-stock-kinds.r with-stock.Post
-with-stock-one κs a x y v w p q = (alike p q, refl)
+pub with_stock_one : OneOutcome with-stock-kinds.ps with-stock-kinds.r with-stock.Post
+with_stock_one κs a x y v w p q = (alike p q, refl)
 
-pub within-one : OneOutcome within-kinds.ps within-kinds.r within.Post
-within-one κs a x y v w p q = (alike p q, refl)
+pub within_one : OneOutcome within-kinds.ps within-kinds.r within.Post
+within_one κs a x y v w p q = (alike p q, refl)

@@ -1,6 +1,6 @@
 // What is known of one element of 9.8 over an observation period: a row of the element table.
 ghost use Rattle.std.specs.Prelude.{◌≡◌, ◌*◌, ◌≤◌};
-ghost use Rattle.element_row.specs.Row.{mostOutages, longest, no_row, rowWithin, withOutage, withStock};
+ghost use Rattle.element_row.specs.Row.{most_outages, longest, no_row, row_within, with_outage, with_stock};
 
 // The most outages that are kept of an element, and the longest of them in minutes.
 pub const MOST_OUTAGES: u32 = 65535;
@@ -31,8 +31,8 @@ impl Row {
 
     // With one outage more, of so many minutes.
     pub fn with_outage(self, minutes: u32) -> Row
-        requires { (self.outages ≤ mostOutages) × (self.minutes ≤ mostOutages * longest) }
-        ensures { result ≡ withOutage self minutes }
+        requires { (self.outages ≤ most_outages) × (self.minutes ≤ most_outages * longest) }
+        ensures { result ≡ with_outage self minutes }
     {
         Row {
             outages: self.outages + 1,
@@ -45,7 +45,7 @@ impl Row {
     // With its stock told, in pieces (0) or as a line (1).
     pub fn with_stock(self, unit: u8, amount: u32) -> Row
         requires { unit ≤ 1 }
-        ensures { result ≡ withStock self unit amount }
+        ensures { result ≡ with_stock self unit amount }
     {
         Row {
             outages: self.outages,
@@ -57,7 +57,7 @@ impl Row {
 
     // Whether the row is within its bounds.
     pub fn within(self) -> bool
-        ensures { result ≡ rowWithin self }
+        ensures { result ≡ row_within self }
     {
         (self.outages <= MOST_OUTAGES)
             & (self.minutes <= self.outages as u64 * LONGEST)

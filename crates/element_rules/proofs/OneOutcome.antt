@@ -8,11 +8,11 @@ use Rattle.element_rules.proofs.outage_answer.Reads as outage-answer
 use Rattle.element_rules.proofs.stock_answer.Kinds as stock-answer-kinds
 use Rattle.element_rules.proofs.stock_answer.Reads as stock-answer
 
-pub sheet-answer-one : OneOutcome sheet-answer-kinds.ps sheet-answer-kinds.r sheet-answer.Post
-sheet-answer-one κs a x y v w p q = (alike p q, refl)
+pub sheet_answer_one : OneOutcome sheet-answer-kinds.ps sheet-answer-kinds.r sheet-answer.Post
+sheet_answer_one κs a x y v w p q = (alike p q, refl)
 
-pub outage-answer-one : OneOutcome outage-answer-kinds.ps outage-answer-kinds.r outage-answer.Post
-outage-answer-one κs a x y v w p q = (alike p q, refl)
+pub outage_answer_one : OneOutcome outage-answer-kinds.ps outage-answer-kinds.r outage-answer.Post
+outage_answer_one κs a x y v w p q = (alike p q, refl)
 
-pub stock-answer-one : OneOutcome stock-answer-kinds.ps stock-answer-kinds.r stock-answer.Post
-stock-answer-one κs a x y v w p q = (alike p q, refl)
+pub stock_answer_one : OneOutcome stock-answer-kinds.ps stock-answer-kinds.r stock-answer.Post
+stock_answer_one κs a x y v w p q = (alike p q, refl)

@@ -14,8 +14,8 @@ abbrev pub end_in : List ℕ → ℕ
 end_in s = le32 s 10
 
 -- kind 5: "a byte 0 for pieces or 1 for line, pieces or tenths of a kilometre 4"
-abbrev pub unitIn : List ℕ → ℕ
-unitIn s = byte_at s 6
+abbrev pub unit_in : List ℕ → ℕ
+unit_in s = byte_at s 6
 
-abbrev pub amountIn : List ℕ → ℕ
-amountIn s = le32 s 7
+abbrev pub amount_in : List ℕ → ℕ
+amount_in s = le32 s 7

@@ -1,12 +1,12 @@
 // The smallest number that applies to a record of a yearly file, by its kind, once the table is sound and the record framed.
 ghost use Rattle.std.specs.Prelude.{◌≡◌};
-ghost use Rattle.element_rules.specs.Answers.{sheetAnswer, outageAnswer, stockAnswer};
+ghost use Rattle.element_rules.specs.Answers.{sheet_answer, outage_answer, stock_answer};
 
 use element_row::Row;
 
 // A year sheet; the mark says whether the file has one already.
 pub fn sheet_answer(seen: bool, bytes: &[u8]) -> u8
-    ensures { result ≡ sheetAnswer seen bytes.now }
+    ensures { result ≡ sheet_answer seen bytes.now }
 {
     if bytes.len() != 18 {
         return 4;
@@ -23,7 +23,7 @@ pub fn sheet_answer(seen: bool, bytes: &[u8]) -> u8
 
 // An outage of the element that has the row.
 pub fn outage_answer(seen: bool, row: Row, bytes: &[u8]) -> u8
-    ensures { result ≡ outageAnswer seen row bytes.now }
+    ensures { result ≡ outage_answer seen row bytes.now }
 {
     if bytes.len() != 14 {
         return 4;
@@ -47,7 +47,7 @@ pub fn outage_answer(seen: bool, row: Row, bytes: &[u8]) -> u8
 
 // A stock of the element that has the row.
 pub fn stock_answer(seen: bool, row: Row, bytes: &[u8]) -> u8
-    ensures { result ≡ stockAnswer seen row bytes.now }
+    ensures { result ≡ stock_answer seen row bytes.now }
 {
     if bytes.len() != 11 {
         return 4;

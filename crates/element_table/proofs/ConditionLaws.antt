@@ -8,17 +8,17 @@ use mathlib.Core.Bool.{Bool, true, false, not, cond, ◌&&◌, ◌||◌, or-true
 use lib.ListN.{length}
 use lib.Dec.{leb, ltb, eqb}
 use borrow.Author.Tests.{ne_eqb, eqb-true, eqb-false, leb-true, leb-false, le-leb, lt-leb, ltb-true, lt-ltb, not-true, not-false}
-use Rattle.base.proofs.TestLaws.{Tested, holds, fails, test, and_both, or-other, one_of_three}
+use Rattle.base.proofs.TestLaws.{Tested, holds, fails, test, and_both, or_other, one_of_three}
 use Rattle.wire.specs.Numbers.{le16}
 use Rattle.wire.specs.Frame.{framed}
 use Rattle.codes.specs.Ranges.{latest}
-use Rattle.fields.specs.Fields.{sheetIn}
+use Rattle.fields.specs.Fields.{sheet_in}
 use Rattle.fields.specs.Tests.{in_range}
-use Rattle.element_codes.specs.Elements.{elementListed}
-use Rattle.element_row.specs.Row.{mostOutages}
+use Rattle.element_codes.specs.Elements.{element_listed}
+use Rattle.element_row.specs.Row.{most_outages}
 use Rattle.element_table.specs.declared.Table.{Table}
-use Rattle.element_rules.specs.Fields.{code_in, start_in, end_in, unitIn}
-use Rattle.element_table.specs.Rules.{by_kind, rowNamed, unframed, kindNotTaken, lengthWrong, outOfPlace, sheetOutOfRange, notListed, timeWrong, codeFull}
+use Rattle.element_rules.specs.Fields.{code_in, start_in, end_in, unit_in}
+use Rattle.element_table.specs.Rules.{by_kind, row_named, unframed, kind_not_taken, length_wrong, out_of_place, sheet_out_of_range, not_listed, time_wrong, code_full}
 
 -- what is said of a year sheet, of an element outage and of a stock
 abbrev pub OfKind : ℕ → Type 0 → Type 0 → Type 0 → Type 0
@@ -45,7 +45,7 @@ either {A} {B} a b f g = (there (test a), back)
   where
     there : Tested a → (a || b) ≡ true → A ⊎ B
     there (holds e) o = inl (f.0 e)
-    there (fails e) o = inr (g.0 (or-other a b e o))
+    there (fails e) o = inr (g.0 (or_other a b e o))
 
     back : A ⊎ B → (a || b) ≡ true
     back (inl x) = ap (λ c. c || b) (f.1 x)
@@ -59,43 +59,43 @@ module _ (sheet outage stock : Bool) where
   abbrev from4 : ℕ → Bool → Bool
   from4 kind b = cond b outage (cond (eqb kind 5) stock false)
 
-  of-sheet : (kind : ℕ) → kind ≡ 1 → by_kind kind sheet outage stock ≡ sheet
-  of-sheet kind k = ap (λ k. by_kind k sheet outage stock) k
+  of_sheet : (kind : ℕ) → kind ≡ 1 → by_kind kind sheet outage stock ≡ sheet
+  of_sheet kind k = ap (λ k. by_kind k sheet outage stock) k
 
-  of-outage : (kind : ℕ) → kind ≡ 4 → by_kind kind sheet outage stock ≡ outage
-  of-outage kind k = ap (λ k. by_kind k sheet outage stock) k
+  of_outage : (kind : ℕ) → kind ≡ 4 → by_kind kind sheet outage stock ≡ outage
+  of_outage kind k = ap (λ k. by_kind k sheet outage stock) k
 
-  of-stock : (kind : ℕ) → kind ≡ 5 → by_kind kind sheet outage stock ≡ stock
-  of-stock kind k = ap (λ k. by_kind k sheet outage stock) k
+  of_stock : (kind : ℕ) → kind ≡ 5 → by_kind kind sheet outage stock ≡ stock
+  of_stock kind k = ap (λ k. by_kind k sheet outage stock) k
 
-  of-another : (kind : ℕ) → kind ≢ 1 → kind ≢ 4 → kind ≢ 5 → by_kind kind sheet outage stock ≡ false
-  of-another kind n1 n4 n5 =
+  of_another : (kind : ℕ) → kind ≢ 1 → kind ≢ 4 → kind ≢ 5 → by_kind kind sheet outage stock ≡ false
+  of_another kind n1 n4 n5 =
       ap (from1 kind) (ne_eqb kind 1 n1) ∙ ap (from4 kind) (ne_eqb kind 4 n4) ∙ ap (λ b. cond b stock false) (ne_eqb kind 5 n5)
 
-  of-kind :
+  of_kind :
       {Sheet Outage Stock : Type 0} (kind : ℕ) →
       (sheet ≡ true) ↔ Sheet →
       (outage ≡ true) ↔ Outage →
       (stock ≡ true) ↔ Stock →
       (by_kind kind sheet outage stock ≡ true) ↔ OfKind kind Sheet Outage Stock
-  of-kind {Sheet} {Outage} {Stock} kind f g h = (there (test (eqb kind 1)) (test (eqb kind 4)) (test (eqb kind 5)), back)
+  of_kind {Sheet} {Outage} {Stock} kind f g h = (there (test (eqb kind 1)) (test (eqb kind 4)) (test (eqb kind 5)), back)
     where
       there :
           Tested (eqb kind 1) → Tested (eqb kind 4) → Tested (eqb kind 5) → by_kind kind sheet outage stock ≡ true → OfKind kind Sheet Outage Stock
-      there (holds a) b c e = let k = eqb-true kind 1 a in inl (k, f.0 (sym (of-sheet kind k) ∙ e))
-      there (fails a) (holds b) c e = let k = eqb-true kind 4 b in inr (inl (k, g.0 (sym (of-outage kind k) ∙ e)))
-      there (fails a) (fails b) (holds c) e = let k = eqb-true kind 5 c in inr (inr (k, h.0 (sym (of-stock kind k) ∙ e)))
+      there (holds a) b c e = let k = eqb-true kind 1 a in inl (k, f.0 (sym (of_sheet kind k) ∙ e))
+      there (fails a) (holds b) c e = let k = eqb-true kind 4 b in inr (inl (k, g.0 (sym (of_outage kind k) ∙ e)))
+      there (fails a) (fails b) (holds c) e = let k = eqb-true kind 5 c in inr (inr (k, h.0 (sym (of_stock kind k) ∙ e)))
       there (fails a) (fails b) (fails c) e =
-          absurd (false≢true (sym (of-another kind (eqb-false _ _ a) (eqb-false _ _ b) (eqb-false _ _ c)) ∙ e))
+          absurd (false≢true (sym (of_another kind (eqb-false _ _ a) (eqb-false _ _ b) (eqb-false _ _ c)) ∙ e))
 
       back : OfKind kind Sheet Outage Stock → by_kind kind sheet outage stock ≡ true
-      back (inl (k, x)) = of-sheet kind k ∙ f.1 x
-      back (inr (inl (k, x))) = of-outage kind k ∙ g.1 x
-      back (inr (inr (k, x))) = of-stock kind k ∙ h.1 x
+      back (inl (k, x)) = of_sheet kind k ∙ f.1 x
+      back (inr (inl (k, x))) = of_outage kind k ∙ g.1 x
+      back (inr (inr (k, x))) = of_stock kind k ∙ h.1 x
 
 -- 2: "under 4 bytes, or stated length is not the slice's length"
-pub says-2 : (s : List ℕ) → (unframed s ≡ true) ↔ ((length s < 4) ⊎ (le16 s 0 ≢ length s))
-says-2 s = (λ e. there (test (leb 4 (length s))) (test (eqb (le16 s 0) (length s))) (not-true _ e), λ o. ap not (back o))
+pub says_2 : (s : List ℕ) → (unframed s ≡ true) ↔ ((length s < 4) ⊎ (le16 s 0 ≢ length s))
+says_2 s = (λ e. there (test (leb 4 (length s))) (test (eqb (le16 s 0) (length s))) (not-true _ e), λ o. ap not (back o))
   where
     there : Tested (leb 4 (length s)) → Tested (eqb (le16 s 0) (length s)) → framed s ≡ false → (length s < 4) ⊎ (le16 s 0 ≢ length s)
     there (fails a) b e = inl (leb-false _ _ a)
@@ -111,56 +111,56 @@ says-2 s = (λ e. there (test (leb 4 (length s))) (test (eqb (le16 s 0) (length 
     back (inr n) = second (leb 4 (length s)) (ne_eqb _ _ n)
 
 -- 3: kinds 1, 4 and 5 are taken
-pub says-3 : (kind : ℕ) → (kindNotTaken kind ≡ true) ↔ ((kind ≢ 1) × (kind ≢ 4) × (kind ≢ 5))
-says-3 kind = (there, λ n. ap not (of-another true true true kind n.0 n.1 n.2))
+pub says_3 : (kind : ℕ) → (kind_not_taken kind ≡ true) ↔ ((kind ≢ 1) × (kind ≢ 4) × (kind ≢ 5))
+says_3 kind = (there, λ n. ap not (of_another true true true kind n.0 n.1 n.2))
   where
     differs : by_kind kind true true true ≡ false → (n : ℕ) → (kind ≡ n → by_kind kind true true true ≡ true) → kind ≢ n
     differs e n f k = true≢false (sym (f k) ∙ e)
 
-    there : kindNotTaken kind ≡ true → (kind ≢ 1) × (kind ≢ 4) × (kind ≢ 5)
+    there : kind_not_taken kind ≡ true → (kind ≢ 1) × (kind ≢ 4) × (kind ≢ 5)
     there e =
         let f = not-true _ e in
-        (differs f 1 (of-sheet true true true kind), differs f 4 (of-outage true true true kind), differs f 5 (of-stock true true true kind))
+        (differs f 1 (of_sheet true true true kind), differs f 4 (of_outage true true true kind), differs f 5 (of_stock true true true kind))
 
-pub kind-taken : (kind : ℕ) → kindNotTaken kind ≡ false → (kind ≡ 1) ⊎ ((kind ≡ 4) ⊎ (kind ≡ 5))
-kind-taken kind e = one_of_three kind 1 4 5 (not-false (by_kind kind true true true) e)
+pub kind_taken : (kind : ℕ) → kind_not_taken kind ≡ false → (kind ≡ 1) ⊎ ((kind ≡ 4) ⊎ (kind ≡ 5))
+kind_taken kind e = one_of_three kind 1 4 5 (not-false (by_kind kind true true true) e)
 
 module _ (kind : ℕ) (s : List ℕ) where
   -- 4: 18, 14 and 11 bytes
-  pub says-4 : (lengthWrong kind s ≡ true) ↔ OfKind kind (length s ≢ 18) (length s ≢ 14) (length s ≢ 11)
-  says-4 =
-      of-kind (not (eqb (length s) 18)) (not (eqb (length s) 14)) (not (eqb (length s) 11)) kind
+  pub says_4 : (length_wrong kind s ≡ true) ↔ OfKind kind (length s ≢ 18) (length s ≢ 14) (length s ≢ 11)
+  says_4 =
+      of_kind (not (eqb (length s) 18)) (not (eqb (length s) 14)) (not (eqb (length s) 11)) kind
       (unequal (length s) 18) (unequal (length s) 14) (unequal (length s) 11)
 
   -- 5: "a record before its file's sheet, a second sheet in a file, a second stock of one code in the table"
-  pub says-5 :
+  pub says_5 :
       (t : Table) →
-      (outOfPlace kind s t ≡ true) ↔
-      OfKind kind (t.seen ≡ true) (t.seen ≡ false) ((t.seen ≡ false) ⊎ (0 < (rowNamed t s).stock))
-  says-5 t =
-      of-kind t.seen (not t.seen) (not t.seen || ltb 0 (rowNamed t s).stock) kind
+      (out_of_place kind s t ≡ true) ↔
+      OfKind kind (t.seen ≡ true) (t.seen ≡ false) ((t.seen ≡ false) ⊎ (0 < (row_named t s).stock))
+  says_5 t =
+      of_kind t.seen (not t.seen) (not t.seen || ltb 0 (row_named t s).stock) kind
       (λ e. e, λ e. e)
       (negation t.seen)
-      (either (not t.seen) (ltb 0 (rowNamed t s).stock) (negation t.seen) (less 0 (rowNamed t s).stock))
+      (either (not t.seen) (ltb 0 (row_named t s).stock) (negation t.seen) (less 0 (row_named t s).stock))
 
   -- 6, of a sheet alone
-  pub says-6 : (sheetOutOfRange kind s ≡ true) ↔ OfKind kind (in_range (sheetIn s) ≡ false) ⊥ ⊥
-  says-6 = of-kind (not (in_range (sheetIn s))) false false kind (negation (in_range (sheetIn s))) never never
+  pub says_6 : (sheet_out_of_range kind s ≡ true) ↔ OfKind kind (in_range (sheet_in s) ≡ false) ⊥ ⊥
+  says_6 = of_kind (not (in_range (sheet_in s))) false false kind (negation (in_range (sheet_in s))) never never
 
   -- 7: "an unknown element or a stock byte that is neither"
-  pub says-7 :
-      (notListed kind s ≡ true) ↔
-      OfKind kind ⊥ (elementListed (code_in s) ≡ false) ((elementListed (code_in s) ≡ false) ⊎ (1 < unitIn s))
-  says-7 =
-      of-kind false (not (elementListed (code_in s))) (not (elementListed (code_in s)) || ltb 1 (unitIn s)) kind
+  pub says_7 :
+      (not_listed kind s ≡ true) ↔
+      OfKind kind ⊥ (element_listed (code_in s) ≡ false) ((element_listed (code_in s) ≡ false) ⊎ (1 < unit_in s))
+  says_7 =
+      of_kind false (not (element_listed (code_in s))) (not (element_listed (code_in s)) || ltb 1 (unit_in s)) kind
       never
-      (negation (elementListed (code_in s)))
-      (either (not (elementListed (code_in s))) (ltb 1 (unitIn s)) (negation (elementListed (code_in s))) (less 1 (unitIn s)))
+      (negation (element_listed (code_in s)))
+      (either (not (element_listed (code_in s))) (ltb 1 (unit_in s)) (negation (element_listed (code_in s))) (less 1 (unit_in s)))
 
   -- 10: "an end before its start or a time over 600,000"
-  pub says-10 : (timeWrong kind s ≡ true) ↔ OfKind kind ⊥ (((end_in s < start_in s) ⊎ (latest < start_in s)) ⊎ (latest < end_in s)) ⊥
-  says-10 =
-      of-kind false (ltb (end_in s) (start_in s) || ltb latest (start_in s) || ltb latest (end_in s)) false kind
+  pub says_10 : (time_wrong kind s ≡ true) ↔ OfKind kind ⊥ (((end_in s < start_in s) ⊎ (latest < start_in s)) ⊎ (latest < end_in s)) ⊥
+  says_10 =
+      of_kind false (ltb (end_in s) (start_in s) || ltb latest (start_in s) || ltb latest (end_in s)) false kind
       never
       (either (ltb (end_in s) (start_in s) || ltb latest (start_in s)) (ltb latest (end_in s))
       (either (ltb (end_in s) (start_in s)) (ltb latest (start_in s)) (less (end_in s) (start_in s)) (less latest (start_in s)))
@@ -168,5 +168,5 @@ module _ (kind : ℕ) (s : List ℕ) where
       never
 
   -- 15: "a code with 65,535 outages"
-  pub says-15 : (t : Table) → (codeFull kind s t ≡ true) ↔ OfKind kind ⊥ (mostOutages ≤ (rowNamed t s).outages) ⊥
-  says-15 t = of-kind false (leb mostOutages (rowNamed t s).outages) false kind never (at_most mostOutages (rowNamed t s).outages) never
+  pub says_15 : (t : Table) → (code_full kind s t ≡ true) ↔ OfKind kind ⊥ (most_outages ≤ (row_named t s).outages) ⊥
+  says_15 t = of_kind false (leb most_outages (row_named t s).outages) false kind never (at_most most_outages (row_named t s).outages) never

@@ -10,15 +10,15 @@ use Rattle.element_table.proofs.Table.begin_file.Reads as begin-file
 use Rattle.element_table.proofs.Table.take.Kinds as take-kinds
 use Rattle.element_table.proofs.Table.take.Reads as take
 
-pub begin-one : OneOutcome begin-kinds.ps begin-kinds.r begin.Post
-begin-one κs a x y v w p q = (alike p q, refl)
+pub begin_one : OneOutcome begin-kinds.ps begin-kinds.r begin.Post
+begin_one κs a x y v w p q = (alike p q, refl)
 
-pub sound-one : OneOutcome sound-kinds.ps sound-kinds.r sound.Post
-sound-one κs a x y v w p q = (alike p q, refl)
+pub sound_one : OneOutcome sound-kinds.ps sound-kinds.r sound.Post
+sound_one κs a x y v w p q = (alike p q, refl)
 
-pub begin-file-one : OneOutcome begin-file-kinds.ps begin-file-kinds.r begin-file.Post
-begin-file-one κs a x y v w p q = (alike p q, refl)
+pub begin_file_one : OneOutcome begin-file-kinds.ps begin-file-kinds.r begin-file.Post
+begin_file_one κs a x y v w p q = (alike p q, refl)
 
 -- answer and table are decided
-pub take-one : OneOutcome take-kinds.ps take-kinds.r take.Post
-take-one κs a x y v w p q = (alike p q, refl)
+pub take_one : OneOutcome take-kinds.ps take-kinds.r take.Post
+take_one κs a x y v w p q = (alike p q, refl)

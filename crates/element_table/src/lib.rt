@@ -2,10 +2,10 @@
 ghost use Rattle.std.specs.Prelude.{◌≡◌, ◌≤◌};
 ghost use Rattle.base.specs.Lists.{every};
 ghost use Rattle.wire.specs.Frame.{kind_of};
-ghost use Rattle.element_row.specs.Row.{rowWithin};
-ghost use Rattle.element_table.specs.Table.{rowOr, beginOf, fileBegun, soundTable};
+ghost use Rattle.element_row.specs.Row.{row_within};
+ghost use Rattle.element_table.specs.Table.{row_or, begin_of, file_begun, sound_table};
 ghost use Rattle.element_table.specs.Rules.{answer_of};
-ghost use Rattle.element_table.specs.Take.{withRow, acceptedAt, taken_of};
+ghost use Rattle.element_table.specs.Take.{with_row, accepted_at, taken_of};
 
 use element_row::Row;
 
@@ -26,7 +26,7 @@ pub struct Filed {
 
 // Whether every row is.
 fn rows_within(rows: [Row; 62]) -> bool
-    ensures { result ≡ every rowWithin rows }
+    ensures { result ≡ every row_within rows }
 {
     let mut ok = true;
     let mut i = 0;
@@ -39,7 +39,7 @@ fn rows_within(rows: [Row; 62]) -> bool
 
 // The row at an index; past the last there is none.
 fn row_at(rows: [Row; 62], at: usize) -> Row
-    ensures { result ≡ rowOr rows at }
+    ensures { result ≡ row_or rows at }
 {
     if 62 <= at {
         return Row::none();
@@ -50,7 +50,7 @@ fn row_at(rows: [Row; 62], at: usize) -> Row
 impl Table {
     // A table for an observation period: 24 for one that is not 1 to 50 years.
     pub fn begin(period: u32) -> Filed
-        ensures { result ≡ beginOf period }
+        ensures { result ≡ begin_of period }
     {
         let rows = [Row {
             outages: 0,
@@ -80,7 +80,7 @@ impl Table {
 
     // Whether the table is sound.
     pub fn sound(self) -> bool
-        ensures { result ≡ soundTable self }
+        ensures { result ≡ sound_table self }
     {
         let rows = self.rows;
         (1 <= self.period) & (self.period <= 50) & rows_within(rows)
@@ -88,7 +88,7 @@ impl Table {
 
     // Begins a file: its year sheet is yet to be seen. 1 for an unsound table.
     pub fn begin_file(mut self) -> Filed
-        ensures { result ≡ fileBegun self }
+        ensures { result ≡ file_begun self }
     {
         if !self.sound() {
             return Filed {
@@ -130,7 +130,7 @@ impl Table {
 
     // The table with another row for an element.
     fn with_row(mut self, at: usize, row: Row) -> Table
-        ensures { result ≡ withRow self at row }
+        ensures { result ≡ with_row self at row }
     {
         if 62 <= at {
             return self;
@@ -142,7 +142,7 @@ impl Table {
     // The table with a record to which no number applies.
     fn with_record(mut self, bytes: &[u8]) -> Table
         requires { answer_of self bytes.now ≡ 0 }
-        ensures { result ≡ acceptedAt (kind_of bytes.now) self bytes.now }
+        ensures { result ≡ accepted_at (kind_of bytes.now) self bytes.now }
     {
         let kind = wire::kind_of(bytes);
         if kind == 1 {

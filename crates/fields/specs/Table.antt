@@ -21,32 +21,32 @@ abbrev pub counts : List Width
 counts = Four ∷ Four ∷ Four ∷ []
 
 -- 1, year sheet: "year 2, customers of each level 3x4"
-abbrev pub sheetFields : List Width
-sheetFields = Two ∷ counts
+abbrev pub sheet_fields : List Width
+sheet_fields = Two ∷ counts
 
 -- 16, open: "number 2, type 1, voltage 1, cause 1, T0"; both events begin so too
-abbrev pub openFields : List Width
-openFields = Two ∷ One ∷ One ∷ One ∷ Four ∷ []
+abbrev pub open_fields : List Width
+open_fields = Two ∷ One ∷ One ∷ One ∷ Four ∷ []
 
 -- 2, simple event: ".. T0 T1 T2 T3 T4, n1 3x4, n2 3x4"
-abbrev pub simpleFields : List Width
-simpleFields = openFields ++ (Four ∷ Four ∷ Four ∷ Four ∷ (counts ++ counts))
+abbrev pub simple_fields : List Width
+simple_fields = open_fields ++ (Four ∷ Four ∷ Four ∷ Four ∷ (counts ++ counts))
 
 -- 3, stepped event: ".. T0, step count 1, then per step: time, 3 counts"
-abbrev pub stepsFields : ℕ → List Width
-stepsFields zero = []
-stepsFields (suc k) = Four ∷ (counts ++ stepsFields k)
+abbrev pub steps_fields : ℕ → List Width
+steps_fields zero = []
+steps_fields (suc k) = Four ∷ (counts ++ steps_fields k)
 
-abbrev pub steppedFields : ℕ → List Width
-steppedFields steps = openFields ++ (One ∷ stepsFields steps)
+abbrev pub stepped_fields : ℕ → List Width
+stepped_fields steps = open_fields ++ (One ∷ steps_fields steps)
 
 -- 17, step: "number 2, ordinal 1, time, 3 counts"
-abbrev pub stepFields : List Width
-stepFields = Two ∷ One ∷ Four ∷ counts
+abbrev pub step_fields : List Width
+step_fields = Two ∷ One ∷ Four ∷ counts
 
 -- 18, close: "number 2, steps taken 1"
-abbrev pub closeFields : List Width
-closeFields = Two ∷ One ∷ []
+abbrev pub close_fields : List Width
+close_fields = Two ∷ One ∷ []
 
 -- behind "its whole length in bytes (2), then its kind (2)": the whole length, and where the field with i fields before it stands
 abbrev pub length_of : List Width → ℕ
@@ -62,17 +62,17 @@ number_at Two s at = le16 s at
 number_at Four s at = le32 s at
 
 -- the numbers of fields that stand one after the other, and those of a record
-abbrev pub numbersFrom : List Width → List ℕ → ℕ → List ℕ
-numbersFrom [] s at = []
-numbersFrom (w ∷ ws) s at = number_at w s at ∷ numbersFrom ws s (at + bytes_of w)
+abbrev pub numbers_from : List Width → List ℕ → ℕ → List ℕ
+numbers_from [] s at = []
+numbers_from (w ∷ ws) s at = number_at w s at ∷ numbers_from ws s (at + bytes_of w)
 
-abbrev pub numbersBy : List Width → List ℕ → List ℕ
-numbersBy ws s = numbersFrom ws s 4
+abbrev pub numbers_by : List Width → List ℕ → List ℕ
+numbers_by ws s = numbers_from ws s 4
 
 -- a head's numbers and those of steps, in the table's order
-abbrev pub headNumbers : Head → List ℕ
-headNumbers h = h.number ∷ h.typ ∷ h.voltage ∷ h.cause ∷ h.t0 ∷ []
+abbrev pub head_numbers : Head → List ℕ
+head_numbers h = h.number ∷ h.typ ∷ h.voltage ∷ h.cause ∷ h.t0 ∷ []
 
-abbrev pub stepsNumbers : List Step → List ℕ
-stepsNumbers [] = []
-stepsNumbers (st ∷ ss) = st.time ∷ (st.counts ++ stepsNumbers ss)
+abbrev pub steps_numbers : List Step → List ℕ
+steps_numbers [] = []
+steps_numbers (st ∷ ss) = st.time ∷ (st.counts ++ steps_numbers ss)

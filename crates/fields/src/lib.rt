@@ -1,7 +1,7 @@
 // The fields of a book's records, read off their bytes, and what 01 asks of a sheet's numbers and of a head's codes.
 ghost use Rattle.std.specs.Prelude.{◌≡◌, ◌+◌, ◌*◌, ◌≤◌, length};
-ghost use Rattle.fields.specs.Fields.{sheetIn, headIn, simpleIn, stepAt};
-ghost use Rattle.fields.specs.Tests.{in_range, headListed};
+ghost use Rattle.fields.specs.Fields.{sheet_in, head_in, simple_in, step_at};
+ghost use Rattle.fields.specs.Tests.{in_range, head_listed};
 
 use annex::{Simple, Step};
 use codes::LEVELS;
@@ -27,7 +27,7 @@ pub struct Head {
 
 // The sheet of a record of kind 1.
 pub fn sheet_of(s: &[u8]) -> Sheet
-    ensures { result ≡ sheetIn s.now }
+    ensures { result ≡ sheet_in s.now }
 {
     Sheet {
         there: true,
@@ -38,7 +38,7 @@ pub fn sheet_of(s: &[u8]) -> Sheet
 
 // The head of a record of kind 2, 3 or 16.
 pub fn head_of(s: &[u8]) -> Head
-    ensures { result ≡ headIn s.now }
+    ensures { result ≡ head_in s.now }
 {
     Head {
         number: wire::u16_at(s, 4),
@@ -52,7 +52,7 @@ pub fn head_of(s: &[u8]) -> Head
 // The times and counts of a record of kind 2, which has its 53 bytes.
 pub fn simple_of(s: &[u8]) -> Simple
     requires { 53 ≤ length s.now }
-    ensures { result ≡ simpleIn s.now }
+    ensures { result ≡ simple_in s.now }
 {
     Simple {
         t0: wire::u32_in(s, 9),
@@ -68,7 +68,7 @@ pub fn simple_of(s: &[u8]) -> Simple
 // The step at an offset: a time and three counts, 16 bytes.
 pub fn step_at(s: &[u8], at: usize) -> Step
     requires { at + 16 ≤ length s.now }
-    ensures { result ≡ stepAt s.now at }
+    ensures { result ≡ step_at s.now at }
 {
     Step {
         time: wire::u32_in(s, at),
@@ -79,7 +79,7 @@ pub fn step_at(s: &[u8], at: usize) -> Step
 impl Sheet {
     // No sheet.
     pub fn none() -> Sheet
-        ensures { result ≡ Rattle.fields.specs.Fields.noSheet }
+        ensures { result ≡ Rattle.fields.specs.Fields.no_sheet }
     {
         Sheet {
             there: false,
@@ -104,7 +104,7 @@ impl Sheet {
 impl Head {
     // Whether the number is not 0, and type, voltage and cause are listed.
     pub fn listed(self) -> bool
-        ensures { result ≡ headListed self }
+        ensures { result ≡ head_listed self }
     {
         (self.number != 0)
             & (codes::row_of(self.typ) < codes::NO_ROW)

@@ -12,149 +12,149 @@ use borrow.Author.Tests.{eqb-false, ne_eqb, ltb-true, ltb-false}
 use Rattle.base.specs.First.{first, Foremost}
 use Rattle.base.proofs.TestLaws.{Tested, holds, fails, test}
 use Rattle.ratio.specs.declared.Fraction.{Fraction}
-use Rattle.ratio.specs.Lowest.{lowestOf}
-use Rattle.ratio.proofs.Euclid.{lowest-lowest}
+use Rattle.ratio.specs.Lowest.{lowest_of}
+use Rattle.ratio.proofs.Euclid.{lowest_lowest}
 use Rattle.decimal.specs.declared.Decimal.{Decimal}
 use Rattle.decimal.specs.declared.Shown.{Shown}
 use Rattle.decimal.specs.declared.Shown.TheVariants as shown
-use Rattle.decimal.specs.Decimal.{splitAt, decimalOf, shownOf, decimally, numbersBy, answerNumber, shownNumbers}
-use Rattle.decimal.proofs.DivisionLaws.{split-under}
-use Rattle.decimal.proofs.RoundLaws.{rounded-nearest, nearest-unique, digits-below, decimal-value, lowest-decimal, too-many-18, else-shown}
-use Rattle.decimal.proofs.NumberLaws.{decimally-decides, shown-numbers, numbers-exactly}
+use Rattle.decimal.specs.Decimal.{split_at, decimal_of, shown_of, decimally, numbers_by, answer_number, shown_numbers}
+use Rattle.decimal.proofs.DivisionLaws.{split_under}
+use Rattle.decimal.proofs.RoundLaws.{rounded_nearest, nearest_unique, digits_below, decimal_value, lowest_decimal, too_many_18, else_shown}
+use Rattle.decimal.proofs.NumberLaws.{decimally_decides, shown_numbers_lem, numbers_exactly}
 use Rattle.codes.specs.declared.Set.{Set}
 use Rattle.ledger.specs.declared.Ledger.{Ledger}
-use Rattle.ledger.specs.Sound.{soundLedger}
+use Rattle.ledger.specs.Sound.{sound_ledger}
 use Rattle.index.specs.declared.Level.{Level}
 use Rattle.index.specs.declared.Index.{Index}
 use Rattle.index.specs.declared.Answer.{Answer}
 use Rattle.index.specs.declared.Answer.TheVariants.{Is, Refused}
-use Rattle.index.specs.Index.{formulaOf, divided_by, indexRules, decimalRules, answeredBy, indexOf, exactly, indexNumbers, decimalNumbers, shownAnswer, shownIndex}
-use Rattle.index.specs.Answered.{Way, unsound, sheetless, divides-by-nobody, answered, Rounded}
-use Rattle.index.proofs.IndexLaws.{weighted-exists, index-exactly}
+use Rattle.index.specs.Index.{formula_of, divided_by, index_rules, decimal_rules, answered_by, index_of, exactly, index_numbers, decimal_numbers, shown_answer, shown_index}
+use Rattle.index.specs.Answered.{Way, unsound, sheetless, divides_by_nobody, answered, Rounded}
+use Rattle.index.proofs.IndexLaws.{weighted_exists, index_exactly}
 
 -- two answers of the same numbers are the same
-pub exactly-decides : (a b : Answer) → exactly a ≡ exactly b → a ≡ b
-exactly-decides (Is f) (Is g) p =
+pub exactly_decides : (a b : Answer) → exactly a ≡ exactly b → a ≡ b
+exactly_decides (Is f) (Is g) p =
     let top : f.top ≡ g.top = ap (λ (ns : List ℕ). get_or ns 1 0) p in
     let bottom : f.bottom ≡ g.bottom = ap (λ (ns : List ℕ). get_or ns 2 0) p in
     λ i. Is (record { top = top i; bottom = bottom i })
-exactly-decides (Is f) (Refused n) p = absurd (let z : ◌≡◌ {A = ℕ} 3 1 = ap length p in omega arith)
-exactly-decides (Refused m) (Is g) p = absurd (let z : ◌≡◌ {A = ℕ} 1 3 = ap length p in omega arith)
-exactly-decides (Refused m) (Refused n) p = ap Refused (ap (λ (ns : List ℕ). get_or ns 0 0) p)
+exactly_decides (Is f) (Refused n) p = absurd (let z : ◌≡◌ {A = ℕ} 3 1 = ap length p in omega arith)
+exactly_decides (Refused m) (Is g) p = absurd (let z : ◌≡◌ {A = ℕ} 1 3 = ap length p in omega arith)
+exactly_decides (Refused m) (Refused n) p = ap Refused (ap (λ (ns : List ℕ). get_or ns 0 0) p)
 
 module _ (l : Ledger) (index : Index) (level : Level) (set : Set) where
   abbrev formula : Fraction
-  formula = formulaOf l index level set
+  formula = formula_of l index level set
 
   abbrev lowest : Fraction
-  lowest = lowestOf formula.top formula.bottom
+  lowest = lowest_of formula.top formula.bottom
 
   -- an index has the numbers that its rules give
-  pub index-numbers : exactly (indexOf l index level set) ≡ indexNumbers l index level set
-  unfolding indexOf indexNumbers
-  index-numbers = go (eqb (first (indexRules l index level set)) 0) (first (indexRules l index level set))
+  pub index_numbers_lem : exactly (index_of l index level set) ≡ index_numbers l index level set
+  unfolding index_of index_numbers
+  index_numbers_lem = go (eqb (first (index_rules l index level set)) 0) (first (index_rules l index level set))
     where
       go : (t : Bool) (n : ℕ) → exactly (cond t (Is lowest) (Refused n)) ≡ cond t (0 ∷ lowest.top ∷ lowest.bottom ∷ []) (n ∷ [])
       go true n = refl
       go false n = refl
 
   -- the answer has these numbers, and what has them is the answer
-  pub index-told : (r : Answer) → r ≡ indexOf l index level set → exactly r ≡ indexNumbers l index level set
-  index-told r e = ap exactly e ∙ index-numbers
+  pub index_told : (r : Answer) → r ≡ index_of l index level set → exactly r ≡ index_numbers l index level set
+  index_told r e = ap exactly e ∙ index_numbers_lem
 
-  pub index_is : (r : Answer) → exactly r ≡ indexNumbers l index level set → r ≡ indexOf l index level set
-  index_is r e = exactly-decides r (indexOf l index level set) (e ∙ sym index-numbers)
+  pub index_is : (r : Answer) → exactly r ≡ index_numbers l index level set → r ≡ index_of l index level set
+  index_is r e = exactly_decides r (index_of l index level set) (e ∙ sym index_numbers_lem)
 
   -- a number is answered exactly where its rule applies and none before it does, and 0 exactly where none applies
-  pub index-exactly-then : (n : ℕ) → (answerNumber (exactly (indexOf l index level set)) ≡ n) ↔ Foremost n (indexRules l index level set)
-  unfolding indexNumbers
-  index-exactly-then n =
-      subst (λ (ns : List ℕ). (answerNumber ns ≡ n) ↔ Foremost n (indexRules l index level set)) (sym index-numbers)
-      (numbers-exactly (indexRules l index level set) (lowest.top ∷ lowest.bottom ∷ []) (tt, (tt, (tt, tt))) n)
+  pub index_exactly_then : (n : ℕ) → (answer_number (exactly (index_of l index level set)) ≡ n) ↔ Foremost n (index_rules l index level set)
+  unfolding index_numbers
+  index_exactly_then n =
+      subst (λ (ns : List ℕ). (answer_number ns ≡ n) ↔ Foremost n (index_rules l index level set)) (sym index_numbers_lem)
+      (numbers_exactly (index_rules l index level set) (lowest.top ∷ lowest.bottom ∷ []) (tt, (tt, (tt, tt))) n)
 
   -- where the index divides by somebody, its fraction in lowest terms is refused with 18 alone, and is shown as 01's formula
-  shown-lowest :
+  shown_lowest :
       (digits : ℕ) →
       (divided_by l index level set ≡ 0 → ⊥) →
-      decimally (shownOf lowest digits) ≡
-      numbersBy ((18, ltb 6 digits) ∷ []) ((decimalOf formula digits).whole ∷ (decimalOf formula digits).digits ∷ [])
-  unfolding shownNumbers
-  shown-lowest digits somebody =
-      let exists : formula.bottom ≡ 0 → ⊥ = weighted-exists index (divided_by l index level set) somebody in
-      let none : eqb lowest.bottom 0 ≡ false = ne_eqb lowest.bottom 0 (lowest-lowest formula.top formula.bottom (omega arith)).exists in
-      let same : decimalOf lowest digits ≡ decimalOf formula digits = lowest-decimal formula.top formula.bottom digits (omega arith) in
-      shown-numbers lowest digits ∙
-      (λ i. numbersBy ((17, none i) ∷ (18, ltb 6 digits) ∷ []) ((same i).whole ∷ (same i).digits ∷ []))
+      decimally (shown_of lowest digits) ≡
+      numbers_by ((18, ltb 6 digits) ∷ []) ((decimal_of formula digits).whole ∷ (decimal_of formula digits).digits ∷ [])
+  unfolding shown_numbers
+  shown_lowest digits somebody =
+      let exists : formula.bottom ≡ 0 → ⊥ = weighted_exists index (divided_by l index level set) somebody in
+      let none : eqb lowest.bottom 0 ≡ false = ne_eqb lowest.bottom 0 (lowest_lowest formula.top formula.bottom (omega arith)).exists in
+      let same : decimal_of lowest digits ≡ decimal_of formula digits = lowest_decimal formula.top formula.bottom digits (omega arith) in
+      shown_numbers_lem lowest digits ∙
+      (λ i. numbers_by ((17, none i) ∷ (18, ltb 6 digits) ∷ []) ((same i).whole ∷ (same i).digits ∷ []))
 
   module _ (digits : ℕ) where
     -- the decimal has the numbers that its rules give
-    pub decimal-numbers : decimally (shownIndex l index level set digits) ≡ decimalNumbers l index level set digits
-    unfolding indexOf decimalNumbers
-    decimal-numbers = go (not (soundLedger l)) (not l.sheet.there) (eqb (divided_by l index level set) 0) refl
+    pub decimal_numbers_lem : decimally (shown_index l index level set digits) ≡ decimal_numbers l index level set digits
+    unfolding index_of decimal_numbers
+    decimal_numbers_lem = go (not (sound_ledger l)) (not l.sheet.there) (eqb (divided_by l index level set) 0) refl
       where
         d : Decimal
-        d = decimalOf formula digits
+        d = decimal_of formula digits
 
         go :
             (a b c : Bool) →
             eqb (divided_by l index level set) 0 ≡ c →
-            decimally (shownAnswer (answeredBy ((1, a) ∷ (5, b) ∷ (17, c) ∷ []) lowest) digits) ≡
-            numbersBy ((1, a) ∷ (5, b) ∷ (17, c) ∷ (18, ltb 6 digits) ∷ []) (d.whole ∷ d.digits ∷ [])
+            decimally (shown_answer (answered_by ((1, a) ∷ (5, b) ∷ (17, c) ∷ []) lowest) digits) ≡
+            numbers_by ((1, a) ∷ (5, b) ∷ (17, c) ∷ (18, ltb 6 digits) ∷ []) (d.whole ∷ d.digits ∷ [])
         go true b c e = refl
         go false true c e = refl
         go false false true e = refl
-        go false false false e = shown-lowest digits (eqb-false _ _ e)
+        go false false false e = shown_lowest digits (eqb-false _ _ e)
 
     -- what has these numbers is the decimal
-    pub decimal-is : (r : Shown) → decimally r ≡ decimalNumbers l index level set digits → r ≡ shownIndex l index level set digits
-    decimal-is r e = decimally-decides r (shownIndex l index level set digits) (e ∙ sym decimal-numbers)
+    pub decimal_is : (r : Shown) → decimally r ≡ decimal_numbers l index level set digits → r ≡ shown_index l index level set digits
+    decimal_is r e = decimally_decides r (shown_index l index level set digits) (e ∙ sym decimal_numbers_lem)
 
     -- a number is answered exactly where its rule applies and none before it does, and 0 exactly where none applies
-    pub decimal-exactly-then :
-        (n : ℕ) → (answerNumber (decimally (shownIndex l index level set digits)) ≡ n) ↔ Foremost n (decimalRules l index level set digits)
-    unfolding decimalNumbers
-    decimal-exactly-then n =
-        let d = decimalOf formula digits in
-        subst (λ (ns : List ℕ). (answerNumber ns ≡ n) ↔ Foremost n (decimalRules l index level set digits)) (sym decimal-numbers)
-        (numbers-exactly (decimalRules l index level set digits) (d.whole ∷ d.digits ∷ []) (tt, (tt, (tt, (tt, tt)))) n)
+    pub decimal_exactly_then :
+        (n : ℕ) → (answer_number (decimally (shown_index l index level set digits)) ≡ n) ↔ Foremost n (decimal_rules l index level set digits)
+    unfolding decimal_numbers
+    decimal_exactly_then n =
+        let d = decimal_of formula digits in
+        subst (λ (ns : List ℕ). (answer_number ns ≡ n) ↔ Foremost n (decimal_rules l index level set digits)) (sym decimal_numbers_lem)
+        (numbers_exactly (decimal_rules l index level set digits) (d.whole ∷ d.digits ∷ []) (tt, (tt, (tt, (tt, tt)))) n)
 
     -- what is shown is 01's formula, rounded to nearest, a tie upward
-    module _ (d : Decimal) (e : shownIndex l index level set digits ≡ shown.Is d) where
-      refuses-no-decimal : (n : ℕ) → shownIndex l index level set digits ≡ shown.Refused n → ⊥
-      refuses-no-decimal n r = let z : ◌≡◌ {A = ℕ} 0 1 = cc in omega arith
+    module _ (d : Decimal) (e : shown_index l index level set digits ≡ shown.Is d) where
+      refuses_no_decimal : (n : ℕ) → shown_index l index level set digits ≡ shown.Refused n → ⊥
+      refuses_no_decimal n r = let z : ◌≡◌ {A = ℕ} 0 1 = cc in omega arith
 
-      rounded-formula : digits ≤ 6 → (formula.bottom ≡ 0 → ⊥) → decimalOf formula digits ≡ d → Rounded l index level set digits d
-      rounded-formula few exists is =
+      rounded_formula : digits ≤ 6 → (formula.bottom ≡ 0 → ⊥) → decimal_of formula digits ≡ d → Rounded l index level set digits d
+      rounded_formula few exists is =
           record {
             few = few;
-            below = rw (← is) (digits-below formula digits);
-            nearest = rw (← is) (rw (decimal-value formula digits) (rounded-nearest formula.top formula.bottom digits (omega arith)));
+            below = rw (← is) (digits_below formula digits);
+            nearest = rw (← is) (rw (decimal_value formula digits) (rounded_nearest formula.top formula.bottom digits (omega arith)));
             exists = exists;
           }
 
-      pub decimal-nearest : Rounded l index level set digits d
-      decimal-nearest = go (index-exactly l index level set) (test (ltb 6 digits))
+      pub decimal_nearest : Rounded l index level set digits d
+      decimal_nearest = go (index_exactly l index level set) (test (ltb 6 digits))
         where
-          go : Way l index level set (indexOf l index level set) → Tested (ltb 6 digits) → Rounded l index level set digits d
-          go (unsound s r) t = absurd (refuses-no-decimal 1 (ap (λ a. shownAnswer a digits) r))
-          go (sheetless s u r) t = absurd (refuses-no-decimal 5 (ap (λ a. shownAnswer a digits) r))
-          go (divides-by-nobody s u n r) t = absurd (refuses-no-decimal 17 (ap (λ a. shownAnswer a digits) r))
+          go : Way l index level set (index_of l index level set) → Tested (ltb 6 digits) → Rounded l index level set digits d
+          go (unsound s r) t = absurd (refuses_no_decimal 1 (ap (λ a. shown_answer a digits) r))
+          go (sheetless s u r) t = absurd (refuses_no_decimal 5 (ap (λ a. shown_answer a digits) r))
+          go (divides_by_nobody s u n r) t = absurd (refuses_no_decimal 17 (ap (λ a. shown_answer a digits) r))
           go (answered s u n r) (holds t) =
-              let exists = weighted-exists index (divided_by l index level set) n in
-              let low = (lowest-lowest formula.top formula.bottom (omega arith)).exists in
-              absurd (refuses-no-decimal 18 (ap (λ a. shownAnswer a digits) r ∙ too-many-18 lowest digits low (ltb-true _ _ t)))
+              let exists = weighted_exists index (divided_by l index level set) n in
+              let low = (lowest_lowest formula.top formula.bottom (omega arith)).exists in
+              absurd (refuses_no_decimal 18 (ap (λ a. shown_answer a digits) r ∙ too_many_18 lowest digits low (ltb-true _ _ t)))
           go (answered s u n r) (fails t) =
-              let exists = weighted-exists index (divided_by l index level set) n in
-              let low = (lowest-lowest formula.top formula.bottom (omega arith)).exists in
+              let exists = weighted_exists index (divided_by l index level set) n in
+              let low = (lowest_lowest formula.top formula.bottom (omega arith)).exists in
               let few : digits ≤ 6 = ltb-false _ _ t in
-              let is : shown.Is (decimalOf lowest digits) ≡ shown.Is d = sym (else-shown lowest digits low few) ∙ sym (ap (λ a. shownAnswer a digits) r) ∙ e in
-              let same : decimalOf lowest digits ≡ d = cc in
-              rounded-formula few exists (sym (lowest-decimal formula.top formula.bottom digits (omega arith)) ∙ same)
+              let is : shown.Is (decimal_of lowest digits) ≡ shown.Is d = sym (else_shown lowest digits low few) ∙ sym (ap (λ a. shown_answer a digits) r) ∙ e in
+              let same : decimal_of lowest digits ≡ d = cc in
+              rounded_formula few exists (sym (lowest_decimal formula.top formula.bottom digits (omega arith)) ∙ same)
 
       -- no other decimal is
-      pub decimal-only : (other : Decimal) → Rounded l index level set digits other → other ≡ d
-      decimal-only other r =
-          sym (split-under other.whole (10 ^ digits) other.digits r.below) ∙
-          ap (λ (v : ℕ). splitAt v (10 ^ digits))
-          (nearest-unique formula.top formula.bottom digits _ _ r.nearest decimal-nearest.nearest) ∙
-          split-under d.whole (10 ^ digits) d.digits decimal-nearest.below
+      pub decimal_only : (other : Decimal) → Rounded l index level set digits other → other ≡ d
+      decimal_only other r =
+          sym (split_under other.whole (10 ^ digits) other.digits r.below) ∙
+          ap (λ (v : ℕ). split_at v (10 ^ digits))
+          (nearest_unique formula.top formula.bottom digits _ _ r.nearest decimal_nearest.nearest) ∙
+          split_under d.whole (10 ^ digits) d.digits decimal_nearest.below

@@ -3,46 +3,46 @@
 use Rattle.std.specs.Prelude.{ℕ, ◌+◌, ◌*◌, ◌^◌, ◌<◌, ◌≤◌, ◌≡◌, true, false}
 use Rattle.ratio.specs.declared.Fraction.{Fraction}
 use Rattle.ratio.specs.Fraction.{Same}
-use Rattle.ratio.specs.Lowest.{Lowest, lowestOf}
+use Rattle.ratio.specs.Lowest.{Lowest, lowest_of}
 use Rattle.decimal.specs.declared.Decimal.{Decimal}
 use Rattle.decimal.specs.Decimal.{Nearest}
 use Rattle.codes.specs.declared.Set.{Set}
 use Rattle.ledger.specs.declared.Ledger.{Ledger}
-use Rattle.ledger.specs.Sound.{soundLedger}
+use Rattle.ledger.specs.Sound.{sound_ledger}
 use Rattle.index.specs.declared.Level.{Level}
 use Rattle.index.specs.declared.Index.{Index}
 use Rattle.index.specs.declared.Answer.{Answer}
 use Rattle.index.specs.declared.Answer.TheVariants.{Is, Refused}
-use Rattle.index.specs.Index.{formulaOf, divided_by}
+use Rattle.index.specs.Index.{formula_of, divided_by}
 
 module _ (l : Ledger) (index : Index) (level : Level) (set : Set) where
   pub data Way (a : Answer) : Type 0 where
-    unsound : soundLedger l ≡ false → a ≡ Refused 1 → Way a
-    sheetless : soundLedger l ≡ true → l.sheet.there ≡ false → a ≡ Refused 5 → Way a
-    divides-by-nobody : soundLedger l ≡ true → l.sheet.there ≡ true → divided_by l index level set ≡ 0 → a ≡ Refused 17 → Way a
+    unsound : sound_ledger l ≡ false → a ≡ Refused 1 → Way a
+    sheetless : sound_ledger l ≡ true → l.sheet.there ≡ false → a ≡ Refused 5 → Way a
+    divides_by_nobody : sound_ledger l ≡ true → l.sheet.there ≡ true → divided_by l index level set ≡ 0 → a ≡ Refused 17 → Way a
     answered :
-        soundLedger l ≡ true →
+        sound_ledger l ≡ true →
         l.sheet.there ≡ true →
         (divided_by l index level set ≡ 0 → ⊥) →
-        a ≡ Is (lowestOf (formulaOf l index level set).top (formulaOf l index level set).bottom) →
+        a ≡ Is (lowest_of (formula_of l index level set).top (formula_of l index level set).bottom) →
         Way a
 
 -- what an answer that is a fraction says of the ledger
 pub record Given (l : Ledger) (index : Index) (level : Level) (set : Set) (f : Fraction) : Type 0 where
-  pub sound : soundLedger l ≡ true
+  pub sound : sound_ledger l ≡ true
   pub there : l.sheet.there ≡ true
   pub somebody : divided_by l index level set ≡ 0 → ⊥
-  pub is : f ≡ lowestOf (formulaOf l index level set).top (formulaOf l index level set).bottom
+  pub is : f ≡ lowest_of (formula_of l index level set).top (formula_of l index level set).bottom
 
 -- the answer is in lowest terms and of the value of 01's formula, which exists
 pub record Exact (l : Ledger) (index : Index) (level : Level) (set : Set) (f : Fraction) : Type 0 where
   pub lowest : Lowest f
-  pub same : Same f (formulaOf l index level set)
-  pub exists : (formulaOf l index level set).bottom ≡ 0 → ⊥
+  pub same : Same f (formula_of l index level set)
+  pub exists : (formula_of l index level set).bottom ≡ 0 → ⊥
 
 -- a decimal with so many digits is of them and of a whole part, and these are nearest to 01's formula, which exists
 pub record Rounded (l : Ledger) (index : Index) (level : Level) (set : Set) (digits : ℕ) (d : Decimal) : Type 0 where
   pub few : digits ≤ 6
   pub below : d.digits < 10 ^ digits
-  pub nearest : Nearest (formulaOf l index level set).top (formulaOf l index level set).bottom digits (d.whole * 10 ^ digits + d.digits)
-  pub exists : (formulaOf l index level set).bottom ≡ 0 → ⊥
+  pub nearest : Nearest (formula_of l index level set).top (formula_of l index level set).bottom digits (d.whole * 10 ^ digits + d.digits)
+  pub exists : (formula_of l index level set).bottom ≡ 0 → ⊥

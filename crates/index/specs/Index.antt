@@ -2,22 +2,22 @@
 use Rattle.std.specs.Prelude.{ℕ, ◌*◌, List, [], ◌∷◌, ◌++◌, not, cond, ltb, eqb}
 use Rattle.base.specs.First.{Rule, first}
 use Rattle.ratio.specs.declared.Fraction.{Fraction}
-use Rattle.ratio.specs.Lowest.{lowestOf}
+use Rattle.ratio.specs.Lowest.{lowest_of}
 use Rattle.decimal.specs.declared.Shown.{Shown}
 use Rattle.decimal.specs.declared.Shown.TheVariants as shown
-use Rattle.decimal.specs.Decimal.{decimalOf, shownOf, numbersBy}
+use Rattle.decimal.specs.Decimal.{decimal_of, shown_of, numbers_by}
 use Rattle.codes.specs.declared.Set.{Set}
 use Rattle.annex.specs.Figure.{Figure, Off, Halves}
 use Rattle.ledger.specs.declared.Cell.{Cell}
 use Rattle.ledger.specs.declared.Ledger.{Ledger}
 use Rattle.ledger.specs.Ledger.{held}
-use Rattle.ledger.specs.Sound.{soundLedger}
+use Rattle.ledger.specs.Sound.{sound_ledger}
 use Rattle.index.specs.declared.Level.{Level}
 use Rattle.index.specs.declared.Index.{Index}
 use Rattle.index.specs.declared.Index.TheVariants.{Saifi, Saidi, Caidi}
 use Rattle.index.specs.declared.Answer.{Answer}
 use Rattle.index.specs.declared.Answer.TheVariants.{Is, Refused}
-use Rattle.index.specs.Sums.{total_of, customersOf}
+use Rattle.index.specs.Sums.{total_of, customers_of}
 
 -- the figure above the line
 abbrev pub above_of : Index → Figure
@@ -35,35 +35,35 @@ divisor_of Saidi sum n = n
 divisor_of Caidi sum n = held Off sum
 
 -- half minutes are divided by twice the customers
-abbrev pub weightOf : Index → ℕ
-weightOf Saifi = 1
-weightOf Saidi = 2
-weightOf Caidi = 2
+abbrev pub weight_of : Index → ℕ
+weight_of Saifi = 1
+weight_of Saidi = 2
+weight_of Caidi = 2
 
 -- the customers that an index divides by; 17: "SAIFI or SAIDI with no customers, CAIDI with no customers interrupted"
 abbrev pub divided_by : Ledger → Index → Level → Set → ℕ
-divided_by l index level set = divisor_of index (total_of l.rows level set) (customersOf l.sheet.totals level)
+divided_by l index level set = divisor_of index (total_of l.rows level set) (customers_of l.sheet.totals level)
 
 -- 01's formula, before it is brought to lowest terms
-abbrev pub formulaOf : Ledger → Index → Level → Set → Fraction
-formulaOf l index level set =
-    record { top = top_of index (total_of l.rows level set); bottom = weightOf index * divided_by l index level set }
+abbrev pub formula_of : Ledger → Index → Level → Set → Fraction
+formula_of l index level set =
+    record { top = top_of index (total_of l.rows level set); bottom = weight_of index * divided_by l index level set }
 
 -- the refusals of an index and of its decimal, in the order of checking: "they check 1 (the ledger), 5 (no sheet), 17, 18"
-abbrev pub indexRules : Ledger → Index → Level → Set → List Rule
-indexRules l index level set = (1, not (soundLedger l)) ∷ (5, not l.sheet.there) ∷ (17, eqb (divided_by l index level set) 0) ∷ []
+abbrev pub index_rules : Ledger → Index → Level → Set → List Rule
+index_rules l index level set = (1, not (sound_ledger l)) ∷ (5, not l.sheet.there) ∷ (17, eqb (divided_by l index level set) 0) ∷ []
 
-abbrev pub decimalRules : Ledger → Index → Level → Set → ℕ → List Rule
-decimalRules l index level set digits = indexRules l index level set ++ ((18, ltb 6 digits) ∷ [])
+abbrev pub decimal_rules : Ledger → Index → Level → Set → ℕ → List Rule
+decimal_rules l index level set digits = index_rules l index level set ++ ((18, ltb 6 digits) ∷ [])
 
 -- an answer by its rules
-abbrev pub answeredBy : List Rule → Fraction → Answer
-answeredBy rules f = cond (eqb (first rules) 0) (Is f) (Refused (first rules))
+abbrev pub answered_by : List Rule → Fraction → Answer
+answered_by rules f = cond (eqb (first rules) 0) (Is f) (Refused (first rules))
 
 -- 01's formula in lowest terms
-unfoldable pub indexOf : Ledger → Index → Level → Set → Answer
-indexOf l index level set =
-    answeredBy (indexRules l index level set) (lowestOf (formulaOf l index level set).top (formulaOf l index level set).bottom)
+unfoldable pub index_of : Ledger → Index → Level → Set → Answer
+index_of l index level set =
+    answered_by (index_rules l index level set) (lowest_of (formula_of l index level set).top (formula_of l index level set).bottom)
 
 -- the answer in 01's numbers: 0, top and bottom; or the refusal
 abbrev pub exactly : Answer → List ℕ
@@ -71,21 +71,21 @@ exactly (Is f) = 0 ∷ f.top ∷ f.bottom ∷ []
 exactly (Refused n) = n ∷ []
 
 -- an index in 01's numbers
-unfoldable pub indexNumbers : Ledger → Index → Level → Set → List ℕ
-indexNumbers l index level set =
-    let f = lowestOf (formulaOf l index level set).top (formulaOf l index level set).bottom in
-    numbersBy (indexRules l index level set) (f.top ∷ f.bottom ∷ [])
+unfoldable pub index_numbers : Ledger → Index → Level → Set → List ℕ
+index_numbers l index level set =
+    let f = lowest_of (formula_of l index level set).top (formula_of l index level set).bottom in
+    numbers_by (index_rules l index level set) (f.top ∷ f.bottom ∷ [])
 
 -- and its decimal: 01's formula, rounded
-unfoldable pub decimalNumbers : Ledger → Index → Level → Set → ℕ → List ℕ
-decimalNumbers l index level set digits =
-    let d = decimalOf (formulaOf l index level set) digits in
-    numbersBy (decimalRules l index level set digits) (d.whole ∷ d.digits ∷ [])
+unfoldable pub decimal_numbers : Ledger → Index → Level → Set → ℕ → List ℕ
+decimal_numbers l index level set digits =
+    let d = decimal_of (formula_of l index level set) digits in
+    numbers_by (decimal_rules l index level set digits) (d.whole ∷ d.digits ∷ [])
 
 -- a decimal of an answer; the refusals of the index come first
-abbrev pub shownAnswer : Answer → ℕ → Shown
-shownAnswer (Is f) digits = shownOf f digits
-shownAnswer (Refused n) digits = shown.Refused n
+abbrev pub shown_answer : Answer → ℕ → Shown
+shown_answer (Is f) digits = shown_of f digits
+shown_answer (Refused n) digits = shown.Refused n
 
-abbrev pub shownIndex : Ledger → Index → Level → Set → ℕ → Shown
-shownIndex l index level set digits = shownAnswer (indexOf l index level set) digits
+abbrev pub shown_index : Ledger → Index → Level → Set → ℕ → Shown
+shown_index l index level set digits = shown_answer (index_of l index level set) digits

@@ -2,9 +2,9 @@
 ghost use Rattle.std.specs.Prelude.{◌≡◌, ◌≤◌, ◌<◌};
 ghost use Rattle.decimal.specs.Decimal.{decimally};
 ghost use Rattle.codes.specs.Codes.{levels};
-ghost use Rattle.index.specs.Sums.{plusCell, heldOr, levelSum, total_of, customersOf};
+ghost use Rattle.index.specs.Sums.{plus_cell, held_or, level_sum, total_of, customers_of};
 ghost use Rattle.index.specs.Inside.{Fit, Low};
-ghost use Rattle.index.specs.Index.{top_of, divisor_of, weightOf, exactly, indexNumbers, decimalNumbers};
+ghost use Rattle.index.specs.Index.{top_of, divisor_of, weight_of, exactly, index_numbers, decimal_numbers};
 
 use annex::{Customers, HalfMinutes};
 use codes::{LEVELS, NO_ROW, ROWS, Set};
@@ -38,7 +38,7 @@ pub enum Answer {
 // Two sums, customers to customers and half minutes to half minutes.
 fn plus(a: Cell, b: Cell) -> Cell
     requires { Fit a b }
-    ensures { result ≡ plusCell a b }
+    ensures { result ≡ plus_cell a b }
 {
     Cell {
         customers: Customers(a.customers.0 + b.customers.0),
@@ -48,7 +48,7 @@ fn plus(a: Cell, b: Cell) -> Cell
 
 // A cell, or nothing where its row is not in the set.
 fn held_or(held: bool, cell: Cell) -> Cell
-    ensures { result ≡ heldOr held cell }
+    ensures { result ≡ held_or held cell }
 {
     if held {
         return cell;
@@ -62,7 +62,7 @@ fn held_or(held: bool, cell: Cell) -> Cell
 // The cells of a level, over the types of a set.
 fn level_sum(rows: [TypeRow; ROWS], level: usize, set: Set) -> Cell
     requires { (level < levels) × Low rows }
-    ensures { result ≡ levelSum rows level set }
+    ensures { result ≡ level_sum rows level set }
 {
     let mut sum = Cell {
         customers: Customers(0),
@@ -104,7 +104,7 @@ fn wide(x: u32) -> u64
 
 // The customers served on a level or in the network: N.
 fn served(totals: [u32; LEVELS], level: Level) -> u64
-    ensures { (result ≡ customersOf totals level) × (result ≤ 12884901885) }
+    ensures { (result ≡ customers_of totals level) × (result ≤ 12884901885) }
 {
     match level {
         Level::NN => wide(totals[0]),
@@ -138,7 +138,7 @@ fn divisor(index: Index, sum: Cell, n: u64) -> u64
 
 // Half minutes are divided by twice the customers.
 fn weight(index: Index) -> u64
-    ensures { (result ≡ weightOf index) × (result ≤ 2) }
+    ensures { (result ≡ weight_of index) × (result ≤ 2) }
 {
     match index {
         Index::Saifi => 1,
@@ -149,7 +149,7 @@ fn weight(index: Index) -> u64
 
 // An index as an exact fraction in lowest terms: 1 for an unsound ledger, 5 without a sheet, 17 where it divides by nobody.
 pub fn index_of(ledger: Ledger, index: Index, level: Level, set: Set) -> Answer
-    ensures { exactly result ≡ indexNumbers ledger index level set }
+    ensures { exactly result ≡ index_numbers ledger index level set }
 {
     if !ledger.sound() {
         return Answer::Refused(1);
@@ -170,7 +170,7 @@ pub fn index_of(ledger: Ledger, index: Index, level: Level, set: Set) -> Answer
 
 // The same with so many digits after the point: 18 for more than 6, after 1, 5 and 17.
 pub fn decimal_of(ledger: Ledger, index: Index, level: Level, set: Set, digits: u8) -> Shown
-    ensures { decimally result ≡ decimalNumbers ledger index level set digits }
+    ensures { decimally result ≡ decimal_numbers ledger index level set digits }
 {
     match index_of(ledger, index, level, set) {
         Answer::Is(f) => decimal::decimal_of(f, digits),

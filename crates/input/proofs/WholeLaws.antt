@@ -8,28 +8,28 @@ use native.Mathlib.Omega.{arith}
 use lib.ListN.{length, replicate, length-replicate}
 use borrow.Author.Tests.{eq-eqb}
 use Rattle.wire.specs.Cut.{joined}
-use Rattle.used_numbers.specs.Marks.{mapSize}
-use Rattle.ledger.specs.Ledger.{emptyLedger}
-use Rattle.ledger.specs.Sound.{soundLedger}
+use Rattle.used_numbers.specs.Marks.{map_size}
+use Rattle.ledger.specs.Ledger.{empty_ledger}
+use Rattle.ledger.specs.Sound.{sound_ledger}
 use Rattle.ledger.specs.Take.{unsound}
-use Rattle.book.specs.Book.{starting, takeRecord, read_of}
-use Rattle.refill.specs.Arrive.{mostTurns, Arrived}
+use Rattle.book.specs.Book.{starting, take_record, read_of}
+use Rattle.refill.specs.Arrive.{most_turns, Arrived}
 use Rattle.book_pieces.specs.declared.Feed.{Feed}
-use Rattle.book_pieces.specs.Feed.{reading_of, finishedOf}
-use Rattle.book_pieces.proofs.LinkLaws.{finish-whole, count_fits}
+use Rattle.book_pieces.specs.Feed.{reading_of, finished_of}
+use Rattle.book_pieces.proofs.LinkLaws.{finish_whole, count_fits}
 
 abbrev zeros : List ℕ
-zeros = replicate mapSize 0
+zeros = replicate map_size 0
 
-empty-sound : unsound emptyLedger zeros ≡ false
-unfolding soundLedger
-empty-sound = λ i. not (eq-eqb (length zeros) mapSize (length-replicate {A = ℕ} mapSize 0) i) || not true
+empty_sound : unsound empty_ledger zeros ≡ false
+unfolding sound_ledger
+empty_sound = λ i. not (eq-eqb (length zeros) map_size (length-replicate {A = ℕ} map_size 0) i) || not true
 
 -- a feed from the empty ledger and map, after at most 2^40 turns, ends as the reading of some bytes as one book does
-pub arrived-whole :
+pub arrived_whole :
     (f : Feed) (m b : List ℕ) →
-    Arrived takeRecord (starting emptyLedger zeros) (reading_of f m) b mostTurns →
-    ((bytes : List ℕ) × (finishedOf f ≡ read_of emptyLedger zeros bytes))
-arrived-whole f m b a =
-    let few = count_fits emptyLedger zeros a.pieces f m b a.holds (omega (arith, a.few)) in
-    (joined a.pieces, finish-whole emptyLedger zeros a.pieces f m b a.holds few empty-sound)
+    Arrived take_record (starting empty_ledger zeros) (reading_of f m) b most_turns →
+    ((bytes : List ℕ) × (finished_of f ≡ read_of empty_ledger zeros bytes))
+arrived_whole f m b a =
+    let few = count_fits empty_ledger zeros a.pieces f m b a.holds (omega (arith, a.few)) in
+    (joined a.pieces, finish_whole empty_ledger zeros a.pieces f m b a.holds few empty_sound)

@@ -1,9 +1,9 @@
 // A book read to its end from a descriptor, in pieces, from an empty ledger and an all-zero map.
 ghost use Rattle.std.specs.Prelude.{ℕ, ◌+◌, ◌≤◌, ◌≡◌, List, length, replicate};
-ghost use Rattle.used_numbers.specs.Marks.{mapSize};
-ghost use Rattle.ledger.specs.Ledger.{emptyLedger};
-ghost use Rattle.book.specs.Book.{BookState, starting, takeRecord, read_of};
-ghost use Rattle.refill.specs.Arrive.{room, mostTurns, Arrived};
+ghost use Rattle.used_numbers.specs.Marks.{map_size};
+ghost use Rattle.ledger.specs.Ledger.{empty_ledger};
+ghost use Rattle.book.specs.Book.{BookState, starting, take_record, read_of};
+ghost use Rattle.refill.specs.Arrive.{room, most_turns, Arrived};
 ghost use Rattle.book_pieces.specs.Feed.{reading_of};
 
 use book::Read;
@@ -24,7 +24,7 @@ struct Turn {
 // One piece more, where a record can still follow.
 fn take_next(fd: i32, feed: Feed, map: &mut [u8], buffer: &mut [u8]) -> Turn
     requires { length buffer.old ≤ room }
-    ensures { (st : BookState) (turns : ℕ) → Arrived takeRecord st (reading_of feed map.old) buffer.old turns → Arrived takeRecord st (reading_of result.feed map.new) buffer.new (turns + 1) }
+    ensures { (st : BookState) (turns : ℕ) → Arrived take_record st (reading_of feed map.old) buffer.old turns → Arrived take_record st (reading_of result.feed map.new) buffer.new (turns + 1) }
 {
     if feed.dead {
         return Turn {
@@ -54,7 +54,7 @@ fn take_next(fd: i32, feed: Feed, map: &mut [u8], buffer: &mut [u8]) -> Turn
 // Turn after turn, to the end of the input or to a length below 4, after which nothing can follow.
 fn take_all(fd: i32, map: &mut [u8], buffer: &mut [u8]) -> Turn
     requires { length buffer.old ≤ room }
-    ensures { Arrived takeRecord (starting emptyLedger map.old) (reading_of result.feed map.new) buffer.new mostTurns }
+    ensures { Arrived take_record (starting empty_ledger map.old) (reading_of result.feed map.new) buffer.new most_turns }
 {
     let mut feed = book_pieces::begin(Ledger::empty());
     let mut turns: u64 = 0;
@@ -82,7 +82,7 @@ pub struct Input {
 
 // Reads a book to its end. Some bytes came, which the system decides, and what is answered is what `book` answers to them in one call.
 pub fn read_book(fd: i32) -> Input
-    ensures { (bytes : List ℕ) × (result.read ≡ read_of emptyLedger (replicate mapSize 0) bytes) }
+    ensures { (bytes : List ℕ) × (result.read ≡ read_of empty_ledger (replicate map_size 0) bytes) }
 {
     let mut map = [0u8; 8192];
     let mut buffer = io::large_buffer();

@@ -6,50 +6,50 @@ use mathlib.Core.List.{List}
 use mathlib.Core.Bool.{true}
 use Rattle.codes.specs.declared.Set.{Set}
 use Rattle.codes.specs.declared.Set.TheVariants.{All, Std, Unnamed}
-use Rattle.codes.specs.Codes.{rowOf}
+use Rattle.codes.specs.Codes.{row_of}
 use Rattle.law_sums.specs.Accepted.{Accepted}
-use Rattle.law_sums.specs.Theorem.{bookLedger}
+use Rattle.law_sums.specs.Theorem.{book_ledger}
 use Rattle.index.specs.declared.Level.{Level}
-use Rattle.index.specs.Sums.{customersOf}
-use Rattle.law_adding.specs.Parts.{types_in, rest, eachOnce}
+use Rattle.index.specs.Sums.{customers_of}
+use Rattle.law_adding.specs.Parts.{types_in, rest, each_once}
 use Rattle.law_adding.specs.Adding.{TotalsAre, NobodyOff, AddsUp}
-use Rattle.law_adding.proofs.BookLaws.{book-sound}
-use Rattle.law_adding.proofs.EventLaws.{events-add}
-use Rattle.law_adding.proofs.TotalLaws.{levels-add, types-add, rest-adds}
-use Rattle.law_adding.proofs.IndexLaws.{saifi-adds, saidi-adds}
-use Rattle.law_adding.proofs.NobodyLaws.{none-off}
-use Rattle.law_adding.proofs.WeighLaws.{saifi-weighs, saidi-weighs}
+use Rattle.law_adding.proofs.BookLaws.{book_sound}
+use Rattle.law_adding.proofs.EventLaws.{events_add}
+use Rattle.law_adding.proofs.TotalLaws.{levels_add, types_add, rest_adds}
+use Rattle.law_adding.proofs.IndexLaws.{saifi_adds, saidi_adds}
+use Rattle.law_adding.proofs.NobodyLaws.{none_off}
+use Rattle.law_adding.proofs.WeighLaws.{saifi_weighs, saidi_weighs}
 
 -- a set's types are different types of 9.2, and so are those that 'std' leaves out
-pub set-once : (set : Set) → eachOnce (types_in set) ≡ true
-unfolding rowOf
-set-once All = refl
-set-once Std = refl
-set-once Unnamed = refl
+pub set_once : (set : Set) → each_once (types_in set) ≡ true
+unfolding row_of
+set_once All = refl
+set_once Std = refl
+set_once Unnamed = refl
 
-pub rest-once : eachOnce rest ≡ true
-unfolding rowOf
-rest-once = refl
+pub rest_once : each_once rest ≡ true
+unfolding row_of
+rest_once = refl
 
 module _ (book : List ℕ) (accepted : Accepted book) where
-  totals-are : (level : Level) (set : Set) → TotalsAre book level set
-  totals-are level set =
-      λ x. types-add (bookLedger book) level set x ∙ events-add book accepted level (types_in set) (set-once set) x
+  totals_are : (level : Level) (set : Set) → TotalsAre book level set
+  totals_are level set =
+      λ x. types_add (book_ledger book) level set x ∙ events_add book accepted level (types_in set) (set_once set) x
 
-  nobody-off : (level : Level) (set : Set) → customersOf (bookLedger book).sheet.totals level ≡ 0 → NobodyOff (bookLedger book) level set
-  nobody-off level set = none-off book accepted level set (totals-are level set)
+  nobody_off : (level : Level) (set : Set) → customers_of (book_ledger book).sheet.totals level ≡ 0 → NobodyOff (book_ledger book) level set
+  nobody_off level set = none_off book accepted level set (totals_are level set)
 
-  pub accepted-book-adds-up : AddsUp book
-  accepted-book-adds-up =
+  pub accepted_book_adds_up : AddsUp book
+  accepted_book_adds_up =
       record {
-        levels = levels-add (bookLedger book);
-        types = types-add (bookLedger book);
-        rests = rest-adds (bookLedger book);
-        events = events-add book accepted;
-        totals = totals-are;
-        saifi = saifi-adds (bookLedger book) (book-sound book);
-        saidi = saidi-adds (bookLedger book) (book-sound book);
-        nobody-off = nobody-off;
-        saifi-weighs = λ set. saifi-weighs (bookLedger book) (book-sound book) set (λ h. nobody-off h set);
-        saidi-weighs = λ set. saidi-weighs (bookLedger book) (book-sound book) set (λ h. nobody-off h set);
+        levels = levels_add (book_ledger book);
+        types = types_add (book_ledger book);
+        rests = rest_adds (book_ledger book);
+        events = events_add book accepted;
+        totals = totals_are;
+        saifi = saifi_adds (book_ledger book) (book_sound book);
+        saidi = saidi_adds (book_ledger book) (book_sound book);
+        nobody_off = nobody_off;
+        saifi_weighs = λ set. saifi_weighs (book_ledger book) (book_sound book) set (λ h. nobody_off h set);
+        saidi_weighs = λ set. saidi_weighs (book_ledger book) (book_sound book) set (λ h. nobody_off h set);
       }

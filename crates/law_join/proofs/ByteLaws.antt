@@ -6,39 +6,39 @@ use mathlib.Core.List.{List, [], ◌∷◌, ◌++◌, append_assoc}
 use mathlib.Core.Bool.{Bool, false, not}
 use lib.Dec.{eqb}
 use Rattle.base.specs.Lists.{All, keep, Bytes}
-use Rattle.base.proofs.ListLaws.{all_append, all-kept, keep_append, keep-again}
+use Rattle.base.proofs.ListLaws.{all_append, all_kept, keep_append, keep_again}
 use Rattle.wire.specs.Frame.{kind_of}
-use Rattle.wire.specs.Cut.{recordsOf, joined}
-use Rattle.wire.proofs.CutLaws.{Framed, cut-joined, records-framed}
-use Rattle.wire.proofs.ByteLaws.{bytes-each}
-use Rattle.records.specs.Records.{isBroken}
-use Rattle.law_sums.specs.Theorem.{eventsOf}
-use Rattle.law_order.proofs.ShapeLaws.{whole-joined}
-use Rattle.law_join.specs.Join.{joinedBook}
+use Rattle.wire.specs.Cut.{records_of, joined}
+use Rattle.wire.proofs.CutLaws.{Framed, cut_joined, records_framed}
+use Rattle.wire.proofs.ByteLaws.{bytes_each}
+use Rattle.records.specs.Records.{is_broken}
+use Rattle.law_sums.specs.Theorem.{events_of}
+use Rattle.law_order.proofs.ShapeLaws.{whole_joined}
+use Rattle.law_join.specs.Join.{joined_book}
 
-joined-append : (rs ss : List (List ℕ)) → joined (rs ++ ss) ≡ joined rs ++ joined ss
-joined-append [] ss = refl
-joined-append (r ∷ rs) ss = ap (λ (t : List ℕ). r ++ t) (joined-append rs ss) ∙ sym (append_assoc r (joined rs) (joined ss))
+joined_append : (rs ss : List (List ℕ)) → joined (rs ++ ss) ≡ joined rs ++ joined ss
+joined_append [] ss = refl
+joined_append (r ∷ rs) ss = ap (λ (t : List ℕ). r ++ t) (joined_append rs ss) ∙ sym (append_assoc r (joined rs) (joined ss))
 
-module _ (book₁ book₂ : List ℕ) (whole : isBroken book₁ ≡ false) where
-  all-framed : All Framed (recordsOf book₁ ++ eventsOf book₂)
-  all-framed =
-      all_append Framed (recordsOf book₁) (eventsOf book₂) (records-framed book₁)
-      (all-kept Framed (λ (s : List ℕ). not (eqb (kind_of s) 1)) (recordsOf book₂) (records-framed book₂))
+module _ (book₁ book₂ : List ℕ) (whole : is_broken book₁ ≡ false) where
+  all_framed : All Framed (records_of book₁ ++ events_of book₂)
+  all_framed =
+      all_append Framed (records_of book₁) (events_of book₂) (records_framed book₁)
+      (all_kept Framed (λ (s : List ℕ). not (eqb (kind_of s) 1)) (records_of book₂) (records_framed book₂))
 
   -- where the first book does not break off, the joined book is its records and the second's events joined, and is cut into just these
-  pub join_is : joined (recordsOf book₁ ++ eventsOf book₂) ≡ joinedBook book₁ book₂
-  join_is = joined-append (recordsOf book₁) (eventsOf book₂) ∙ ap (λ (b : List ℕ). b ++ joined (eventsOf book₂)) (whole-joined book₁ whole)
+  pub join_is : joined (records_of book₁ ++ events_of book₂) ≡ joined_book book₁ book₂
+  join_is = joined_append (records_of book₁) (events_of book₂) ∙ ap (λ (b : List ℕ). b ++ joined (events_of book₂)) (whole_joined book₁ whole)
 
-  pub join-records : recordsOf (joinedBook book₁ book₂) ≡ recordsOf book₁ ++ eventsOf book₂
-  join-records = ap recordsOf (sym join_is) ∙ cut-joined (recordsOf book₁ ++ eventsOf book₂) all-framed
+  pub join_records : records_of (joined_book book₁ book₂) ≡ records_of book₁ ++ events_of book₂
+  join_records = ap records_of (sym join_is) ∙ cut_joined (records_of book₁ ++ events_of book₂) all_framed
 
-  pub join-events : eventsOf (joinedBook book₁ book₂) ≡ eventsOf book₁ ++ eventsOf book₂
-  join-events =
-      let no-sheet : List ℕ → Bool = λ (s : List ℕ). not (eqb (kind_of s) 1) in
-      ap (keep no-sheet) join-records ∙ keep_append no-sheet (recordsOf book₁) (eventsOf book₂) ∙
-      ap (λ (es : List (List ℕ)). eventsOf book₁ ++ es) (keep-again no-sheet (recordsOf book₂))
+  pub join_events : events_of (joined_book book₁ book₂) ≡ events_of book₁ ++ events_of book₂
+  join_events =
+      let no_sheet_lem : List ℕ → Bool = λ (s : List ℕ). not (eqb (kind_of s) 1) in
+      ap (keep no_sheet_lem) join_records ∙ keep_append no_sheet_lem (records_of book₁) (events_of book₂) ∙
+      ap (λ (es : List (List ℕ)). events_of book₁ ++ es) (keep_again no_sheet_lem (records_of book₂))
 
 -- the records of a book of bytes hold bytes
-pub bytes-records : (book : List ℕ) → isBroken book ≡ false → Bytes book → All Bytes (recordsOf book)
-bytes-records book whole b = bytes-each (recordsOf book) (subst Bytes (sym (whole-joined book whole)) b)
+pub bytes_records : (book : List ℕ) → is_broken book ≡ false → Bytes book → All Bytes (records_of book)
+bytes_records book whole b = bytes_each (records_of book) (subst Bytes (sym (whole_joined book whole)) b)

@@ -5,18 +5,18 @@ use mathlib.Core.List.{List, ◌++◌}
 use mathlib.Core.Bool.{Bool, ◌&&◌, not}
 use lib.ListN.{length, length-append}
 use lib.Dec.{eqb}
-use Rattle.annex.specs.Annex.{shortEvent}
+use Rattle.annex.specs.Annex.{short_event}
 use Rattle.annex.specs.Figure.{Figure, given}
-use Rattle.law_sums.specs.Accepted.{eventIn, row_in, shortOnes, sum_of}
+use Rattle.law_sums.specs.Accepted.{event_in, row_in, short_ones, sum_of}
 use Rattle.base.proofs.ListLaws.{keep_append}
-use Rattle.base.proofs.SumLaws.{sum-kept-append}
+use Rattle.base.proofs.SumLaws.{sum_kept_append}
 
 abbrev counts : ℕ → List ℕ → Bool
-counts row = λ (s : List ℕ). eqb (row_in s) row && not (shortEvent (eventIn s))
+counts row = λ (s : List ℕ). eqb (row_in s) row && not (short_event (event_in s))
 
 module _ (xs ys : List (List ℕ)) where
-  pub sums-append : (x : Figure) (row h : ℕ) → sum_of x row h (xs ++ ys) ≡ sum_of x row h xs + sum_of x row h ys
-  sums-append x row h = sum-kept-append (counts row) (λ (s : List ℕ). given x h (eventIn s)) xs ys
+  pub sums_append : (x : Figure) (row h : ℕ) → sum_of x row h (xs ++ ys) ≡ sum_of x row h xs + sum_of x row h ys
+  sums_append x row h = sum_kept_append (counts row) (λ (s : List ℕ). given x h (event_in s)) xs ys
 
-  pub short-append : length (shortOnes (xs ++ ys)) ≡ length (shortOnes xs) + length (shortOnes ys)
-  short-append = ap length (keep_append (λ (s : List ℕ). shortEvent (eventIn s)) xs ys) ∙ length-append (shortOnes xs) (shortOnes ys)
+  pub short_append : length (short_ones (xs ++ ys)) ≡ length (short_ones xs) + length (short_ones ys)
+  short_append = ap length (keep_append (λ (s : List ℕ). short_event (event_in s)) xs ys) ∙ length-append (short_ones xs) (short_ones ys)

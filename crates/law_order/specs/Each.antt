@@ -4,27 +4,27 @@ use Rattle.std.specs.Prelude.{ℕ, ◌+◌, ◌<◌, ◌≤◌, ◌≡◌, ◌�
 use mathlib.Core.List.{List, [], ◌∷◌, map, foldl}
 use Rattle.base.specs.Lists.{All}
 use Rattle.wire.specs.Frame.{kind_of}
-use Rattle.codes.specs.Ranges.{mostEvents}
+use Rattle.codes.specs.Ranges.{most_events}
 use Rattle.used_numbers.specs.Marks.{marked}
 use Rattle.fields.specs.declared.Sheet.{Sheet}
-use Rattle.fields.specs.Fields.{sheetIn}
-use Rattle.record.specs.Rules.{unframed, kindNotTaken, lengthWrong, sheetMissingOrSecond, sheetOutOfRange, notListed, timeWrong, countTooLarge, countTooHigh, someAfterNone}
+use Rattle.fields.specs.Fields.{sheet_in}
+use Rattle.record.specs.Rules.{unframed, kind_not_taken, length_wrong, sheet_missing_or_second, sheet_out_of_range, not_listed, time_wrong, count_too_large, count_too_high, some_after_none}
 use Rattle.ledger.specs.declared.Ledger.{Ledger}
-use Rattle.ledger.specs.Ledger.{emptyLedger, added}
-use Rattle.law_sums.specs.Accepted.{zeroMap, eventAt, number_in}
+use Rattle.ledger.specs.Ledger.{empty_ledger, added}
+use Rattle.law_sums.specs.Accepted.{zero_map, event_at, number_in}
 
 -- right by itself under a sheet: none of the rules 2 to 13 applies
 pub record Right (sheet : Sheet) (s : List ℕ) : Type 0 where
   pub framed : unframed s ≡ false
-  pub kind : kindNotTaken (kind_of s) ≡ false
-  pub size : lengthWrong (kind_of s) s ≡ false
-  pub there : sheetMissingOrSecond (kind_of s) sheet ≡ false
-  pub range : sheetOutOfRange (kind_of s) s ≡ false
-  pub listed : notListed (kind_of s) s ≡ false
-  pub timely : timeWrong (kind_of s) s sheet ≡ false
-  pub few : countTooLarge (kind_of s) s sheet ≡ false
-  pub low : countTooHigh (kind_of s) s ≡ false
-  pub some : someAfterNone (kind_of s) s ≡ false
+  pub kind : kind_not_taken (kind_of s) ≡ false
+  pub size : length_wrong (kind_of s) s ≡ false
+  pub there : sheet_missing_or_second (kind_of s) sheet ≡ false
+  pub range : sheet_out_of_range (kind_of s) s ≡ false
+  pub listed : not_listed (kind_of s) s ≡ false
+  pub timely : time_wrong (kind_of s) s sheet ≡ false
+  pub few : count_too_large (kind_of s) s sheet ≡ false
+  pub low : count_too_high (kind_of s) s ≡ false
+  pub some : some_after_none (kind_of s) s ≡ false
 
 -- two numbers that a map tells apart: a number of two bytes is below 65,536, and a map of 8,192 bytes has a bit for each of those and for no other
 abbrev pub Apart : ℕ → ℕ → Type 0
@@ -43,24 +43,24 @@ pub record Each (sheet : Sheet) (m : List ℕ) (events : ℕ) (ss : List (List �
   pub right : All (Right sheet) ss
   pub unmarked : All (Unmarked m) ss
   pub different : Different (map number_in ss)
-  pub room : events + length ss ≤ mostEvents
+  pub room : events + length ss ≤ most_events
 
 -- the event of a record added
-abbrev pub withEvent : Sheet → Ledger → List ℕ → Ledger
-withEvent sheet l s = added l (eventAt sheet s)
+abbrev pub with_event : Sheet → Ledger → List ℕ → Ledger
+with_event sheet l s = added l (event_at sheet s)
 
 -- all the events of records added
-abbrev pub withAll : Sheet → Ledger → List (List ℕ) → Ledger
-withAll sheet l ss = foldl (withEvent sheet) l ss
+abbrev pub with_all : Sheet → Ledger → List (List ℕ) → Ledger
+with_all sheet l ss = foldl (with_event sheet) l ss
 
 -- the empty ledger with a sheet
-abbrev pub onlySheet : List ℕ → Ledger
-onlySheet s = record { sheet = sheetIn s; events = 0; short = 0; rows = emptyLedger.rows }
+abbrev pub only_sheet : List ℕ → Ledger
+only_sheet s = record { sheet = sheet_in s; events = 0; short = 0; rows = empty_ledger.rows }
 
 -- a sheet, and events that are accepted after it
 pub record Told (sheet : List ℕ) (events : List (List ℕ)) : Type 0 where
-  pub is-sheet : kind_of sheet ≡ 1
+  pub is_sheet_lem : kind_of sheet ≡ 1
   pub framed : unframed sheet ≡ false
-  pub size : lengthWrong 1 sheet ≡ false
-  pub range : sheetOutOfRange 1 sheet ≡ false
-  pub each : Each (sheetIn sheet) zeroMap 0 events
+  pub size : length_wrong 1 sheet ≡ false
+  pub range : sheet_out_of_range 1 sheet ≡ false
+  pub each : Each (sheet_in sheet) zero_map 0 events

@@ -5,8 +5,8 @@ use Rattle.wire.specs.Cut.{joined}
 use Rattle.worked.specs.Bytes.{three, sheet, times}
 use Rattle.worked.specs.Worked.{fault}
 
-abbrev pub yearSheet : List ℕ
-yearSheet = sheet 2009 (three 1000 10 1)
+abbrev pub year_sheet : List ℕ
+year_sheet = sheet 2009 (three 1000 10 1)
 
 abbrev pub first : List ℕ
 first = fault 1 13 7 (times 100 100 104 104) (three 1000 10 1)
@@ -18,11 +18,11 @@ abbrev pub third : List ℕ
 third = fault 3 11 1 (times 300 300 350 350) (three 1000 0 0)
 
 -- the year's records, and the same in another order
-abbrev pub asWorked : List (List ℕ)
-asWorked = first ∷ second ∷ third ∷ []
+abbrev pub as_worked : List (List ℕ)
+as_worked = first ∷ second ∷ third ∷ []
 
 abbrev pub turned : List (List ℕ)
 turned = third ∷ first ∷ second ∷ []
 
-abbrev pub turnedYear : List ℕ
-turnedYear = joined (yearSheet ∷ turned)
+abbrev pub turned_year : List ℕ
+turned_year = joined (year_sheet ∷ turned)

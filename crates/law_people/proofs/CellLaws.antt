@@ -10,78 +10,78 @@ use native.Mathlib.Nat.{add-zero}
 use borrow.Author.Tests.{eq-eqb, ne_eqb, not-false}
 use Rattle.base.specs.Lists.{sum}
 use Rattle.codes.specs.Codes.{rows, levels}
-use Rattle.annex.specs.Annex.{simple, stepped, njhtjh2, shortEvent}
+use Rattle.annex.specs.Annex.{simple, stepped, njhtjh2, short_event}
 use Rattle.annex.specs.Figure.{Halves, given}
-use Rattle.fields.specs.Fields.{headIn, simpleIn, stepsIn}
-use Rattle.fields.proofs.TestLaws.{listed-row}
-use Rattle.record.specs.Rules.{notListed}
+use Rattle.fields.specs.Fields.{head_in, simple_in, steps_in}
+use Rattle.fields.proofs.TestLaws.{listed_row}
+use Rattle.record.specs.Rules.{not_listed}
 use Rattle.ledger.specs.declared.Ledger.{Ledger}
-use Rattle.ledger.specs.Ledger.{cell_of, heldIn, Shaped}
-use Rattle.ledger.specs.Take.{ledgerAfter}
-use Rattle.ledger.proofs.CellLaws.{by-figures}
-use Rattle.ledger.proofs.ExactlyThen.{accepted-rules}
-use Rattle.book.specs.Book.{starting, takeRecord}
-use Rattle.law_sums.specs.Accepted.{eventIn, row_in, acceptedEvents, countedIn}
+use Rattle.ledger.specs.Ledger.{cell_of, held_in, Shaped}
+use Rattle.ledger.specs.Take.{ledger_after}
+use Rattle.ledger.proofs.CellLaws.{by_figures}
+use Rattle.ledger.proofs.ExactlyThen.{accepted_rules}
+use Rattle.book.specs.Book.{starting, take_record}
+use Rattle.law_sums.specs.Accepted.{event_in, row_in, accepted_events, counted_in}
 use Rattle.law_sums.specs.Theorem.{Adds}
-use Rattle.law_sums.proofs.AnnexTheorem.{adds-exactly}
+use Rattle.law_sums.proofs.AnnexTheorem.{adds_exactly}
 use Rattle.law_people.specs.People.{Agrees, Counted, AddsByCustomer}
-use Rattle.law_people.proofs.PeopleLaws.{by-customer}
+use Rattle.law_people.proofs.PeopleLaws.{by_customer}
 
 module _ (l : Ledger) (m s : List ℕ) (c : Counted l m s) where
-  told-in-steps : eventIn s ≡ stepped (headIn s).t0 (stepsIn s)
-  told-in-steps = ap (λ kind. cond (eqb kind 2) (simple (simpleIn s)) (stepped (headIn s).t0 (stepsIn s))) c.kind
+  told_in_steps : event_in s ≡ stepped (head_in s).t0 (steps_in s)
+  told_in_steps = ap (λ kind. cond (eqb kind 2) (simple (simple_in s)) (stepped (head_in s).t0 (steps_in s))) c.kind
 
   row_below : row_in s < rows
   row_below =
-      let listed : notListed 3 s ≡ false = ap (λ kind. notListed kind s) (sym c.kind) ∙ accepted-rules l m s c.accepted 7 in
-      listed-row (headIn s) (not-false _ listed)
+      let listed : not_listed 3 s ≡ false = ap (λ kind. not_listed kind s) (sym c.kind) ∙ accepted_rules l m s c.accepted 7 in
+      listed_row (head_in s) (not-false _ listed)
 
   -- taken alone, the record is the one accepted event; its row counts it, and no other row does
-  one-event : acceptedEvents (starting l m) (s ∷ []) ≡ s ∷ []
-  one-event = λ i. cond (eqb (c.accepted i) 0 && not (eqb (c.kind i) 1)) (s ∷ []) []
+  one_event : accepted_events (starting l m) (s ∷ []) ≡ s ∷ []
+  one_event = λ i. cond (eqb (c.accepted i) 0 && not (eqb (c.kind i) 1)) (s ∷ []) []
 
-  in-own-row : countedIn (row_in s) (acceptedEvents (starting l m) (s ∷ [])) ≡ s ∷ []
-  in-own-row = ap (countedIn (row_in s)) one-event ∙ (λ i. cond (eq-eqb (row_in s) (row_in s) refl i && not (c.not_short i)) (s ∷ []) [])
+  in_own_row : counted_in (row_in s) (accepted_events (starting l m) (s ∷ [])) ≡ s ∷ []
+  in_own_row = ap (counted_in (row_in s)) one_event ∙ (λ i. cond (eq-eqb (row_in s) (row_in s) refl i && not (c.not_short i)) (s ∷ []) [])
 
-  in-no-other : (row : ℕ) → row ≢ row_in s → countedIn row (acceptedEvents (starting l m) (s ∷ [])) ≡ []
-  in-no-other row d =
-      ap (countedIn row) one-event ∙ (λ i. cond (ne_eqb (row_in s) row (λ e. d (sym e)) i && not (shortEvent (eventIn s))) (s ∷ []) [])
+  in_no_other : (row : ℕ) → row ≢ row_in s → counted_in row (accepted_events (starting l m) (s ∷ [])) ≡ []
+  in_no_other row d =
+      ap (counted_in row) one_event ∙ (λ i. cond (ne_eqb (row_in s) row (λ e. d (sym e)) i && not (short_event (event_in s))) (s ∷ []) [])
 
   module _ (shaped : Shaped l) where
     adds : Adds (starting l m) (s ∷ [])
-    adds = adds-exactly (starting l m) (s ∷ []) shaped
+    adds = adds_exactly (starting l m) (s ∷ []) shaped
 
-    own-cell :
-        (h : ℕ) → h < levels → heldIn Halves (ledgerAfter l m s) (row_in s) h ≡ heldIn Halves l (row_in s) h + njhtjh2 h (stepped (headIn s).t0 (stepsIn s))
-    unfolding takeRecord
-    own-cell h b =
+    own_cell :
+        (h : ℕ) → h < levels → held_in Halves (ledger_after l m s) (row_in s) h ≡ held_in Halves l (row_in s) h + njhtjh2 h (stepped (head_in s).t0 (steps_in s))
+    unfolding take_record
+    own_cell h b =
         adds.cells Halves (row_in s) h row_below b ∙
-        ap (λ x. heldIn Halves l (row_in s) h + x)
-        (ap (λ es. sum (map (λ (s : List ℕ). njhtjh2 h (eventIn s)) es)) in-own-row ∙ add-zero _ ∙ ap (njhtjh2 h) told-in-steps)
+        ap (λ x. held_in Halves l (row_in s) h + x)
+        (ap (λ es. sum (map (λ (s : List ℕ). njhtjh2 h (event_in s)) es)) in_own_row ∙ add-zero _ ∙ ap (njhtjh2 h) told_in_steps)
 
-    other-cell : (row level : ℕ) → row < rows → level < levels → row ≢ row_in s → cell_of (ledgerAfter l m s) row level ≡ cell_of l row level
-    unfolding takeRecord
-    other-cell row level r b d =
-        by-figures _ _
+    other_cell : (row level : ℕ) → row < rows → level < levels → row ≢ row_in s → cell_of (ledger_after l m s) row level ≡ cell_of l row level
+    unfolding take_record
+    other_cell row level r b d =
+        by_figures _ _
         (λ x.
         adds.cells x row level r b ∙
-        ap (λ es. heldIn x l row level + sum (map (λ (s : List ℕ). given x level (eventIn s)) es)) (in-no-other row d) ∙
+        ap (λ es. held_in x l row level + sum (map (λ (s : List ℕ). given x level (event_in s)) es)) (in_no_other row d) ∙
         add-zero _)
 
 -- a stepped event that counts raises its cell's half minutes by twice the minutes of any customers that agree with it;
 -- the cells of the other rows are as they were
-pub cell-by-customer :
+pub cell_by_customer :
     (l : Ledger) (m s : List ℕ) →
     Shaped l →
     Counted l m s →
     (h : ℕ) →
     h < levels →
     (customers : List (List Bool)) →
-    Agrees h (stepsIn s) customers →
+    Agrees h (steps_in s) customers →
     AddsByCustomer l m s h customers
-cell-by-customer l m s shaped c h b customers agrees =
+cell_by_customer l m s shaped c h b customers agrees =
     record {
       halves =
-          own-cell l m s c shaped h b ∙ ap (λ x. heldIn Halves l (row_in s) h + x) (by-customer h (headIn s).t0 (stepsIn s) customers agrees);
-      others = other-cell l m s c shaped;
+          own_cell l m s c shaped h b ∙ ap (λ x. held_in Halves l (row_in s) h + x) (by_customer h (head_in s).t0 (steps_in s) customers agrees);
+      others = other_cell l m s c shaped;
     }

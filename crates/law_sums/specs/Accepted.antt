@@ -5,80 +5,80 @@ use Rattle.std.specs.Prelude.{ℕ, ◌≡◌, Bool, false, ◌&&◌, not, cond, 
 use mathlib.Core.List.{List, [], ◌∷◌, map, foldl}
 use Rattle.base.specs.Lists.{sum, keep}
 use Rattle.wire.specs.Frame.{kind_of}
-use Rattle.codes.specs.Codes.{rowOf}
-use Rattle.annex.specs.Annex.{Event, simple, stepped, shortEvent, end_of, figuresOf}
+use Rattle.codes.specs.Codes.{row_of}
+use Rattle.annex.specs.Annex.{Event, simple, stepped, short_event, end_of, figures_of}
 use Rattle.annex.specs.Figure.{Figure, given}
-use Rattle.used_numbers.specs.Marks.{mapSize, markedWith}
+use Rattle.used_numbers.specs.Marks.{map_size, marked_with}
 use Rattle.fields.specs.declared.Sheet.{Sheet}
-use Rattle.fields.specs.Fields.{sheetIn, headIn, simpleIn, stepsIn}
+use Rattle.fields.specs.Fields.{sheet_in, head_in, simple_in, steps_in}
 use Rattle.verdict.specs.declared.Verdict.{Verdict}
-use Rattle.verdict.specs.Verdict.{eventVerdict}
-use Rattle.ledger.specs.Ledger.{emptyLedger}
+use Rattle.verdict.specs.Verdict.{event_verdict}
+use Rattle.ledger.specs.Ledger.{empty_ledger}
 use Rattle.ledger.specs.Take.{answer_of}
-use Rattle.records.specs.Records.{isBroken}
-use Rattle.book.specs.Book.{BookState, takeRecord, afterBook}
+use Rattle.records.specs.Records.{is_broken}
+use Rattle.book.specs.Book.{BookState, take_record, after_book}
 
-abbrev pub zeroMap : List ℕ
-zeroMap = replicate mapSize 0
+abbrev pub zero_map : List ℕ
+zero_map = replicate map_size 0
 
 pub record Accepted (book : List ℕ) : Type 0 where
-  pub whole : isBroken book ≡ false
-  pub all : (afterBook emptyLedger zeroMap book).refused ≡ 0
+  pub whole : is_broken book ≡ false
+  pub all : (after_book empty_ledger zero_map book).refused ≡ 0
 
 -- the event that a record of kind 2 or 3 tells
-abbrev pub eventIn : List ℕ → Event
-eventIn s = cond (eqb (kind_of s) 2) (simple (simpleIn s)) (stepped (headIn s).t0 (stepsIn s))
+abbrev pub event_in : List ℕ → Event
+event_in s = cond (eqb (kind_of s) 2) (simple (simple_in s)) (stepped (head_in s).t0 (steps_in s))
 
 -- the ledger's row of its type
 abbrev pub row_in : List ℕ → ℕ
-row_in s = rowOf (headIn s).typ
+row_in s = row_of (head_in s).typ
 
 -- what the event of a record adds, under a sheet
-abbrev pub eventAt : Sheet → List ℕ → Verdict
-eventAt sheet s = eventVerdict sheet (headIn s) (end_of (eventIn s)) (figuresOf (eventIn s))
+abbrev pub event_at : Sheet → List ℕ → Verdict
+event_at sheet s = event_verdict sheet (head_in s) (end_of (event_in s)) (figures_of (event_in s))
 
 -- the accepted records that pass a test, among those taken from a state on: the events, and the sheets
-abbrev pub acceptedOf : (List ℕ → Bool) → BookState → List (List ℕ) → List (List ℕ)
-acceptedOf f st [] = []
-acceptedOf f st (s ∷ ss) =
+abbrev pub accepted_of : (List ℕ → Bool) → BookState → List (List ℕ) → List (List ℕ)
+accepted_of f st [] = []
+accepted_of f st (s ∷ ss) =
     cond (eqb (answer_of st.ledger st.map s) 0 && f s)
-    (s ∷ acceptedOf f (takeRecord st s) ss)
-    (acceptedOf f (takeRecord st s) ss)
+    (s ∷ accepted_of f (take_record st s) ss)
+    (accepted_of f (take_record st s) ss)
 
-abbrev pub isSheet : List ℕ → Bool
-isSheet s = eqb (kind_of s) 1
+abbrev pub is_sheet : List ℕ → Bool
+is_sheet s = eqb (kind_of s) 1
 
-abbrev pub acceptedEvents : BookState → List (List ℕ) → List (List ℕ)
-acceptedEvents = acceptedOf (λ (s : List ℕ). not (isSheet s))
+abbrev pub accepted_events : BookState → List (List ℕ) → List (List ℕ)
+accepted_events = accepted_of (λ (s : List ℕ). not (is_sheet s))
 
-abbrev pub acceptedSheets : BookState → List (List ℕ) → List (List ℕ)
-acceptedSheets = acceptedOf isSheet
+abbrev pub accepted_sheets : BookState → List (List ℕ) → List (List ℕ)
+accepted_sheets = accepted_of is_sheet
 
 -- the events of a row that are not short: those that count in its cells
-abbrev pub countedIn : ℕ → List (List ℕ) → List (List ℕ)
-countedIn row events = keep (λ (s : List ℕ). eqb (row_in s) row && not (shortEvent (eventIn s))) events
+abbrev pub counted_in : ℕ → List (List ℕ) → List (List ℕ)
+counted_in row events = keep (λ (s : List ℕ). eqb (row_in s) row && not (short_event (event_in s))) events
 
-abbrev pub shortOnes : List (List ℕ) → List (List ℕ)
-shortOnes events = keep (λ (s : List ℕ). shortEvent (eventIn s)) events
+abbrev pub short_ones : List (List ℕ) → List (List ℕ)
+short_ones events = keep (λ (s : List ℕ). short_event (event_in s)) events
 
 -- of a figure the sum over the counted events j of a row: Σ n_jh, and 2 · Σ n_jh · t_jh
 abbrev pub sum_of : Figure → ℕ → ℕ → List (List ℕ) → ℕ
-sum_of x row h events = sum (map (λ (s : List ℕ). given x h (eventIn s)) (countedIn row events))
+sum_of x row h events = sum (map (λ (s : List ℕ). given x h (event_in s)) (counted_in row events))
 
 abbrev pub number_in : List ℕ → ℕ
-number_in s = (headIn s).number
+number_in s = (head_in s).number
 
-abbrev pub numbersOf : List (List ℕ) → List ℕ
-numbersOf ss = map number_in ss
+abbrev pub numbers_of : List (List ℕ) → List ℕ
+numbers_of ss = map number_in ss
 
 -- a map with the number of an event marked, and with those of all events
 abbrev pub with_number : List ℕ → List ℕ → List ℕ
-with_number m s = markedWith m (number_in s)
+with_number m s = marked_with m (number_in s)
 
-abbrev pub allMarked : List ℕ → List (List ℕ) → List ℕ
-allMarked m ss = foldl with_number m ss
+abbrev pub all_marked : List ℕ → List (List ℕ) → List ℕ
+all_marked m ss = foldl with_number m ss
 
 -- the sheet that is there, or else that of the first sheet record's bytes
-abbrev pub sheetBy : Sheet → List (List ℕ) → Sheet
-sheetBy sheet [] = sheet
-sheetBy sheet (s ∷ ss) = cond sheet.there sheet (sheetIn s)
+abbrev pub sheet_by : Sheet → List (List ℕ) → Sheet
+sheet_by sheet [] = sheet
+sheet_by sheet (s ∷ ss) = cond sheet.there sheet (sheet_in s)

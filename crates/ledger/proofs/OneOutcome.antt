@@ -14,21 +14,21 @@ use Rattle.ledger.proofs.Ledger.add.Reads as add
 use Rattle.ledger.proofs.Ledger.take.Kinds as take-kinds
 use Rattle.ledger.proofs.Ledger.take.Reads as take
 
-pub none-one : OneOutcome none-kinds.ps none-kinds.r none.Post
-none-one κs a x y v w p q = (alike p q, refl)
+pub none_one : OneOutcome none-kinds.ps none-kinds.r none.Post
+none_one κs a x y v w p q = (alike p q, refl)
 
-pub grown-one : OneOutcome grown-kinds.ps grown-kinds.r grown.Post
-grown-one κs a x y v w p q = (alike p q, refl)
+pub grown_one : OneOutcome grown-kinds.ps grown-kinds.r grown.Post
+grown_one κs a x y v w p q = (alike p q, refl)
 
-pub empty-one : OneOutcome empty-kinds.ps empty-kinds.r empty.Post
-empty-one κs a x y v w p q = (alike p q, refl)
+pub empty_one : OneOutcome empty-kinds.ps empty-kinds.r empty.Post
+empty_one κs a x y v w p q = (alike p q, refl)
 
-pub sound-one : OneOutcome sound-kinds.ps sound-kinds.r sound.Post
-sound-one κs a x y v w p q = (alike p q, refl)
+pub sound_one : OneOutcome sound-kinds.ps sound-kinds.r sound.Post
+sound_one κs a x y v w p q = (alike p q, refl)
 
 pub add-one : OneOutcome add-kinds.ps add-kinds.r add.Post
 add-one κs a x y v w p q = ((λ i. record { answer = alike p.0 q.0 i; ledger = alike p.1 q.1 i }), refl)
 
 -- answer, ledger and map are decided
-pub take-one : OneOutcome take-kinds.ps take-kinds.r take.Post
-take-one κs a x y v w p q = (alike p.0 q.0, λ i. (tt, (alike p.1 q.1 i, (tt, tt))))
+pub take_one : OneOutcome take-kinds.ps take-kinds.r take.Post
+take_one κs a x y v w p q = (alike p.0 q.0, λ i. (tt, (alike p.1 q.1 i, (tt, tt))))

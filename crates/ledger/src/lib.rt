@@ -3,10 +3,10 @@
 ghost use Rattle.std.specs.Prelude.{◌≡◌, ◌&&◌, ◌≤◌, ◌*◌};
 ghost use Rattle.base.specs.Lists.{every};
 ghost use Rattle.annex.specs.Figure.{Off, Halves, most_of};
-ghost use Rattle.ledger.specs.Ledger.{emptyRow, emptyLedger, grownBy, grownLevels, grownRow, added};
-ghost use Rattle.ledger.specs.Sound.{cellWithin, rowWithin, sheetSound, soundLedger};
+ghost use Rattle.ledger.specs.Ledger.{empty_row, empty_ledger, grown_by, grown_levels, grown_row, added};
+ghost use Rattle.ledger.specs.Sound.{cell_within, row_within, sheet_sound, sound_ledger};
 ghost use Rattle.ledger.specs.Inside.{Spare, SpareRow, Small, Fits};
-ghost use Rattle.ledger.specs.Take.{taken_of, mapAfter};
+ghost use Rattle.ledger.specs.Take.{taken_of, map_after};
 
 use annex::{Customers, Figures, HalfMinutes};
 use codes::{LEVELS, ROWS};
@@ -49,7 +49,7 @@ impl Cell {
     // The cell with the figures of one event more.
     fn grown(self, customers: Customers, halves: HalfMinutes) -> Cell
         requires { Spare self × (customers.0 ≤ most_of Off) × (halves.0 ≤ most_of Halves) }
-        ensures { result ≡ grownBy self customers halves }
+        ensures { result ≡ grown_by self customers halves }
     {
         Cell {
             customers: Customers(self.customers.0 + customers.0),
@@ -59,7 +59,7 @@ impl Cell {
 
     // Whether the cell is within the bounds that so many events set.
     fn within(self, events: u16) -> bool
-        ensures { result ≡ cellWithin events self }
+        ensures { result ≡ cell_within events self }
     {
         (self.customers.0 <= events as u64 * annex::MOST_OFF)
             & (self.halves.0 <= events as u64 * annex::MOST_HALVES)
@@ -69,7 +69,7 @@ impl Cell {
 // The cells of a row, each with its own level's figures of one event more.
 fn grown_levels(c: [Cell; LEVELS], figures: Figures) -> [Cell; LEVELS]
     requires { SpareRow c × Small figures }
-    ensures { result ≡ grownLevels figures c }
+    ensures { result ≡ grown_levels figures c }
 {
     let n = figures.customers;
     let h = figures.halves;
@@ -82,7 +82,7 @@ fn grown_levels(c: [Cell; LEVELS], figures: Figures) -> [Cell; LEVELS]
 
 // Whether each of a row's cells is within the bounds that so many events set.
 fn levels_within(c: [Cell; LEVELS], events: u16) -> bool
-    ensures { result ≡ every (cellWithin events) c }
+    ensures { result ≡ every (cell_within events) c }
 {
     c[0].within(events) & c[1].within(events) & c[2].within(events)
 }
@@ -90,7 +90,7 @@ fn levels_within(c: [Cell; LEVELS], events: u16) -> bool
 impl TypeRow {
     // Nothing on any level.
     pub fn none() -> TypeRow
-        ensures { result ≡ emptyRow }
+        ensures { result ≡ empty_row }
     {
         TypeRow {
             levels: [Cell {
@@ -103,7 +103,7 @@ impl TypeRow {
     // The row with the figures of one event more.
     pub fn grown(self, figures: Figures) -> TypeRow
         requires { SpareRow self.levels × Small figures }
-        ensures { result ≡ grownRow self figures }
+        ensures { result ≡ grown_row self figures }
     {
         let c = self.levels;
         TypeRow {
@@ -112,7 +112,7 @@ impl TypeRow {
     }
 
     fn within(self, events: u16) -> bool
-        ensures { result ≡ rowWithin events self }
+        ensures { result ≡ row_within events self }
     {
         let c = self.levels;
         levels_within(c, events)
@@ -121,7 +121,7 @@ impl TypeRow {
 
 // Whether every row is.
 fn rows_within(rows: [TypeRow; ROWS], events: u16) -> bool
-    ensures { result ≡ every (rowWithin events) rows }
+    ensures { result ≡ every (row_within events) rows }
 {
     let mut ok = true;
     let mut i = 0;
@@ -134,7 +134,7 @@ fn rows_within(rows: [TypeRow; ROWS], events: u16) -> bool
 
 // Whether a sheet is in range, or there is none and all is zero.
 fn sheet_sound(sheet: Sheet, events: u16) -> bool
-    ensures { result ≡ sheetSound sheet events }
+    ensures { result ≡ sheet_sound sheet events }
 {
     let n = sheet.totals;
     let zero = (sheet.year == 0) & (n[0] == 0) & (n[1] == 0) & (n[2] == 0) & (events == 0);
@@ -144,7 +144,7 @@ fn sheet_sound(sheet: Sheet, events: u16) -> bool
 impl Ledger {
     // No sheet, and all is zero.
     pub fn empty() -> Ledger
-        ensures { result ≡ emptyLedger }
+        ensures { result ≡ empty_ledger }
     {
         Ledger {
             sheet: Sheet::none(),
@@ -156,7 +156,7 @@ impl Ledger {
 
     // Whether the ledger is sound.
     pub fn sound(self) -> bool
-        ensures { result ≡ soundLedger self }
+        ensures { result ≡ sound_ledger self }
     {
         let sheet = self.sheet;
         let rows = self.rows;
@@ -186,7 +186,7 @@ impl Ledger {
 
     // One record of a book: the answer number and the next ledger. The map is marked where an event is accepted.
     pub fn take(self, map: &mut [u8], bytes: &[u8]) -> Taken
-        ensures { (result ≡ taken_of self map.old bytes.now) × (map.new ≡ mapAfter self map.old bytes.now) }
+        ensures { (result ≡ taken_of self map.old bytes.now) × (map.new ≡ map_after self map.old bytes.now) }
     {
         if (map.len() != MAP) | !self.sound() {
             return Taken {

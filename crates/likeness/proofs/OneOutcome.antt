@@ -4,5 +4,5 @@ use Rattle.base.proofs.OneOutcome.{OneOutcome, alike}
 use Rattle.likeness.proofs.likeness_of.Kinds as likeness-of-kinds
 use Rattle.likeness.proofs.likeness_of.Reads as likeness-of
 
-pub likeness-of-one : OneOutcome likeness-of-kinds.ps likeness-of-kinds.r likeness-of.Post
-likeness-of-one κs a x y v w p q = (alike p q, refl)
+pub likeness_of_one : OneOutcome likeness-of-kinds.ps likeness-of-kinds.r likeness-of.Post
+likeness_of_one κs a x y v w p q = (alike p q, refl)

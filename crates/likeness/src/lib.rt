@@ -1,6 +1,6 @@
 // What stands in a refused line in the place of what was expected: what spreadsheets and people write often, so that it can be named.
 ghost use Rattle.std.specs.Prelude.{◌≡◌, ◌&&◌, ◌||◌, false, eqb};
-ghost use Rattle.likeness.specs.Likeness.{isLetter, beginsAlike, anyAlike, lettersIn, wordLike, itemLike, marksTime, timeGoesOn, gapLike, likenessOf};
+ghost use Rattle.likeness.specs.Likeness.{is_letter, begins_alike, any_alike, letters_in, word_like, item_like, marks_time, time_goes_on, gap_like, likeness_of};
 
 // What it is; 0 where it is none of these.
 pub const BYTE_ORDER_MARK: u8 = 1;
@@ -15,7 +15,7 @@ pub const OTHER_TIME: u8 = 5;
 
 // Whether a byte is a letter of ASCII, or past it: those of other alphabets.
 fn is_letter(b: u8) -> bool
-    ensures { result ≡ Rattle.likeness.specs.Likeness.isLetter b }
+    ensures { result ≡ Rattle.likeness.specs.Likeness.is_letter b }
 {
     if b < 65 {
         return false;
@@ -47,7 +47,7 @@ fn lowered(b: u8) -> u8
 
 // Whether a line begins with a word, in whichever letters.
 fn begins_alike(s: &[u8], word: &[u8]) -> bool
-    ensures { result ≡ beginsAlike s.now word.now }
+    ensures { result ≡ begins_alike s.now word.now }
 {
     if s.len() < word.len() {
         return false;
@@ -64,7 +64,7 @@ fn begins_alike(s: &[u8], word: &[u8]) -> bool
 
 // Whether a word stands in front, in whichever letters, parted from what follows.
 fn is_alike(s: &[u8], word: &[u8]) -> bool
-    ensures { result ≡ Rattle.likeness.specs.Likeness.isAlike s.now word.now }
+    ensures { result ≡ Rattle.likeness.specs.Likeness.is_alike s.now word.now }
 {
     if !begins_alike(s, word) {
         return false;
@@ -74,7 +74,7 @@ fn is_alike(s: &[u8], word: &[u8]) -> bool
 
 // Whether one of the four words stands in front, in whichever letters.
 fn any_alike(s: &[u8]) -> bool
-    ensures { result ≡ anyAlike s.now }
+    ensures { result ≡ any_alike s.now }
 {
     if is_alike(s, b"sheet") {
         return true;
@@ -90,7 +90,7 @@ fn any_alike(s: &[u8]) -> bool
 
 // Whether a letter stands behind a gap.
 fn letter_behind(behind: bool, b: u8) -> bool
-    ensures { result ≡ (behind && isLetter b) }
+    ensures { result ≡ (behind && is_letter b) }
 {
     if !behind {
         return false;
@@ -100,7 +100,7 @@ fn letter_behind(behind: bool, b: u8) -> bool
 
 // Whether an item behind the first begins with a letter, before the comment.
 fn letters_in(s: &[u8]) -> bool
-    ensures { result ≡ lettersIn false s.now }
+    ensures { result ≡ letters_in false s.now }
 {
     let mut behind = false;
     let mut i = 0;
@@ -120,7 +120,7 @@ fn letters_in(s: &[u8]) -> bool
 
 // Whether a line is a header row: its first item begins with a letter, and another one too.
 fn is_header(s: &[u8]) -> bool
-    ensures { result ≡ Rattle.likeness.specs.Likeness.isHeader s.now }
+    ensures { result ≡ Rattle.likeness.specs.Likeness.is_header s.now }
 {
     if !is_letter(wire::byte_at(s, 0)) {
         return false;
@@ -130,7 +130,7 @@ fn is_header(s: &[u8]) -> bool
 
 // Whether a byte-order mark stands in front.
 fn is_mark(s: &[u8]) -> bool
-    ensures { result ≡ Rattle.likeness.specs.Likeness.isMark s.now }
+    ensures { result ≡ Rattle.likeness.specs.Likeness.is_mark s.now }
 {
     if wire::byte_at(s, 0) != 239 {
         return false;
@@ -143,7 +143,7 @@ fn is_mark(s: &[u8]) -> bool
 
 // What stands in a word's place.
 fn word_like(s: &[u8]) -> u8
-    ensures { result ≡ wordLike s.now }
+    ensures { result ≡ word_like s.now }
 {
     if is_mark(s) {
         return BYTE_ORDER_MARK;
@@ -162,7 +162,7 @@ fn word_like(s: &[u8]) -> u8
 
 // What stands in an item's place.
 fn item_like(s: &[u8], answer: u8) -> u8
-    ensures { result ≡ itemLike s.now answer }
+    ensures { result ≡ item_like s.now answer }
 {
     let first = wire::byte_at(s, 0);
     if first == 34 {
@@ -179,7 +179,7 @@ fn item_like(s: &[u8], answer: u8) -> u8
 
 // Whether a byte stands between the numbers of a day or of an hour: a dash, a point, a stroke or a colon.
 fn marks_time(b: u8) -> bool
-    ensures { result ≡ marksTime b }
+    ensures { result ≡ marks_time b }
 {
     if b == 45 {
         return true;
@@ -195,7 +195,7 @@ fn marks_time(b: u8) -> bool
 
 // Whether a day or an hour goes on: such a byte, and a digit.
 fn time_goes_on(s: &[u8]) -> bool
-    ensures { result ≡ timeGoesOn s.now }
+    ensures { result ≡ time_goes_on s.now }
 {
     if !marks_time(wire::byte_at(s, 0)) {
         return false;
@@ -205,7 +205,7 @@ fn time_goes_on(s: &[u8]) -> bool
 
 // What stands behind an item of a sort.
 fn gap_like(s: &[u8], item: u8) -> u8
-    ensures { result ≡ gapLike s.now item }
+    ensures { result ≡ gap_like s.now item }
 {
     if item != text_items::TIME {
         return 0;
@@ -231,7 +231,7 @@ fn asks_item(answer: u8) -> bool
 
 // What stands at a place of a line that was refused there: its answer says what was expected, and the year is that of the sheet before it.
 pub fn likeness_of(line: &[u8], at: usize, answer: u8, year: u16) -> u8
-    ensures { result ≡ likenessOf line.now at answer year }
+    ensures { result ≡ likeness_of line.now at answer year }
 {
     let s = wire::part(line, at, line.len());
     if answer == text_scan::WORD {

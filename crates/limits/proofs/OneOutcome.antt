@@ -16,23 +16,23 @@ use Rattle.limits.proofs.is_simple_late.Reads as is-simple-late
 use Rattle.limits.proofs.is_none_then_some.Kinds as is-none-then-some-kinds
 use Rattle.limits.proofs.is_none_then_some.Reads as is-none-then-some
 
-pub exceeds-one : OneOutcome exceeds-kinds.ps exceeds-kinds.r exceeds.Post
-exceeds-one κs a x y v w p q = (alike p q, refl)
+pub exceeds_one : OneOutcome exceeds-kinds.ps exceeds-kinds.r exceeds.Post
+exceeds_one κs a x y v w p q = (alike p q, refl)
 
-pub is-above-one : OneOutcome is-above-kinds.ps is-above-kinds.r is-above.Post
-is-above-one κs a x y v w p q = (alike p q, refl)
+pub is_above_one : OneOutcome is-above-kinds.ps is-above-kinds.r is-above.Post
+is_above_one κs a x y v w p q = (alike p q, refl)
 
-pub figures-exceed-one : OneOutcome figures-exceed-kinds.ps figures-exceed-kinds.r figures-exceed.Post
-figures-exceed-one κs a x y v w p q = (alike p q, refl)
+pub figures_exceed_one : OneOutcome figures-exceed-kinds.ps figures-exceed-kinds.r figures-exceed.Post
+figures_exceed_one κs a x y v w p q = (alike p q, refl)
 
-pub figures-above-one : OneOutcome figures-above-kinds.ps figures-above-kinds.r figures-above.Post
-figures-above-one κs a x y v w p q = (alike p q, refl)
+pub figures_above_one : OneOutcome figures-above-kinds.ps figures-above-kinds.r figures-above.Post
+figures_above_one κs a x y v w p q = (alike p q, refl)
 
-pub is-late-one : OneOutcome is-late-kinds.ps is-late-kinds.r is-late.Post
-is-late-one κs a x y v w p q = (alike p q, refl)
+pub is_late_one : OneOutcome is-late-kinds.ps is-late-kinds.r is-late.Post
+is_late_one κs a x y v w p q = (alike p q, refl)
 
-pub is-simple-late-one : OneOutcome is-simple-late-kinds.ps is-simple-late-kinds.r is-simple-late.Post
-is-simple-late-one κs a x y v w p q = (alike p q, refl)
+pub is_simple_late_one : OneOutcome is-simple-late-kinds.ps is-simple-late-kinds.r is-simple-late.Post
+is_simple_late_one κs a x y v w p q = (alike p q, refl)
 
-pub is-none-then-some-one : OneOutcome is-none-then-some-kinds.ps is-none-then-some-kinds.r is-none-then-some.Post
-is-none-then-some-one κs a x y v w p q = (alike p q, refl)
+pub is_none_then_some_one : OneOutcome is-none-then-some-kinds.ps is-none-then-some-kinds.r is-none-then-some.Post
+is_none_then_some_one κs a x y v w p q = (alike p q, refl)

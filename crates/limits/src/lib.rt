@@ -1,7 +1,7 @@
 // What 01 asks of an event's times and counts: its limits, each as one test.
 ghost use Rattle.std.specs.Prelude.{◌≡◌};
 ghost use Rattle.annex.specs.declared.Figures.{Figures};
-ghost use Rattle.limits.specs.Limits.{exceeding, aboveLevel, exceedingFigures, figuresAbove, lateStep, simpleLate, noneThenSome};
+ghost use Rattle.limits.specs.Limits.{exceeding, above_level, exceeding_figures, figures_above, late_step, simple_late, none_then_some};
 
 use annex::{Figures, Simple};
 use codes::LEVELS;
@@ -15,21 +15,21 @@ pub fn exceeds(counts: [u32; LEVELS], totals: [u32; LEVELS]) -> bool
 
 // Whether a count above 0 stands on a level higher than the event's.
 pub fn is_above(counts: [u32; LEVELS], level: u8) -> bool
-    ensures { result ≡ aboveLevel level counts }
+    ensures { result ≡ above_level level counts }
 {
     ((level < 1) & (0 < counts[1])) | ((level < 2) & (0 < counts[2]))
 }
 
 // The same two tests of the largest counts of all steps: some step's count exceeds, or stands above, just where the largest does.
 pub fn figures_exceed(figures: Figures, totals: [u32; LEVELS]) -> bool
-    ensures { result ≡ exceedingFigures totals figures }
+    ensures { result ≡ exceeding_figures totals figures }
 {
     let c = figures.customers;
     ((totals[0] as u64) < c[0].0) | ((totals[1] as u64) < c[1].0) | ((totals[2] as u64) < c[2].0)
 }
 
 pub fn figures_above(figures: Figures, level: u8) -> bool
-    ensures { result ≡ figuresAbove level figures }
+    ensures { result ≡ figures_above level figures }
 {
     let c = figures.customers;
     ((level < 1) & (0 < c[1].0)) | ((level < 2) & (0 < c[2].0))
@@ -37,14 +37,14 @@ pub fn figures_above(figures: Figures, level: u8) -> bool
 
 // Whether a step's time is before the one before it, or over 600,000.
 pub fn is_late(time: u32, before: u32) -> bool
-    ensures { result ≡ lateStep before time }
+    ensures { result ≡ late_step before time }
 {
     (time < before) | (codes::LATEST < time)
 }
 
 // Whether a time of a simple event breaks a rule, apart from T0's place in the year.
 pub fn is_simple_late(e: Simple, typ: u8) -> bool
-    ensures { result ≡ simpleLate typ e }
+    ensures { result ≡ simple_late typ e }
 {
     (e.t1 < e.t0)
         | (e.t2 < e.t1)
@@ -57,7 +57,7 @@ pub fn is_simple_late(e: Simple, typ: u8) -> bool
 
 // Whether n1 is 0 and n2 is not, on some level.
 pub fn is_none_then_some(e: Simple) -> bool
-    ensures { result ≡ noneThenSome e }
+    ensures { result ≡ none_then_some e }
 {
     let a = e.n1;
     let b = e.n2;

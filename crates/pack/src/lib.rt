@@ -1,14 +1,14 @@
 // An entry written as the bytes that its line stands for.
 ghost use Rattle.std.specs.Prelude.{◌≡◌, ◌≤◌, take, drop};
-ghost use Rattle.pen.specs.Pen.{spot, pushedAll};
-ghost use Rattle.pack.specs.Pack.{oneEach, head_of, packedOf};
-ghost use Rattle.codec.specs.Codec.{fourEach, headBytes};
+ghost use Rattle.pen.specs.Pen.{spot, pushed_all};
+ghost use Rattle.pack.specs.Pack.{one_each, head_of, packed_of};
+ghost use Rattle.codec.specs.Codec.{four_each, head_bytes};
 
 use text_items::Entry;
 
 // The numbers before the `count`-th, a byte for each.
 fn put_bytes(out: &mut [u8], at: usize, values: [u32; 261], count: usize) -> usize
-    ensures { spot out.new result ≡ pushedAll (spot out.old at) (oneEach (take count values)) }
+    ensures { spot out.new result ≡ pushed_all (spot out.old at) (one_each (take count values)) }
 {
     let mut to = at;
     let mut k: usize = 0;
@@ -24,7 +24,7 @@ fn put_bytes(out: &mut [u8], at: usize, values: [u32; 261], count: usize) -> usi
 
 // The numbers from the `from`-th to before the `count`-th, four bytes for each.
 fn put_fours(out: &mut [u8], at: usize, values: [u32; 261], from: usize, count: usize) -> usize
-    ensures { spot out.new result ≡ pushedAll (spot out.old at) (fourEach (drop from (take count values))) }
+    ensures { spot out.new result ≡ pushed_all (spot out.old at) (four_each (drop from (take count values))) }
 {
     let mut to = at;
     let mut k = from;
@@ -40,7 +40,7 @@ fn put_fours(out: &mut [u8], at: usize, values: [u32; 261], from: usize, count: 
 
 // A record's length and kind.
 fn put_frame(out: &mut [u8], at: usize, length: u32, kind: u32) -> usize
-    ensures { spot out.new result ≡ pushedAll (spot out.old at) (Rattle.codec.specs.Codec.frame length kind) }
+    ensures { spot out.new result ≡ pushed_all (spot out.old at) (Rattle.codec.specs.Codec.frame length kind) }
 {
     let to = pen::put_le2(out, at, length);
     pen::put_le2(out, to, kind)
@@ -48,7 +48,7 @@ fn put_frame(out: &mut [u8], at: usize, length: u32, kind: u32) -> usize
 
 // An event's number, type, voltage, cause and T0.
 fn put_head(out: &mut [u8], at: usize, values: [u32; 261]) -> usize
-    ensures { spot out.new result ≡ pushedAll (spot out.old at) (headBytes (head_of values)) }
+    ensures { spot out.new result ≡ pushed_all (spot out.old at) (head_bytes (head_of values)) }
 {
     let typ = pen::put_le2(out, at, values[0]);
     let voltage = pen::put(out, typ, (values[1] % 256) as u8);
@@ -60,7 +60,7 @@ fn put_head(out: &mut [u8], at: usize, values: [u32; 261]) -> usize
 // A year sheet.
 fn put_sheet(out: &mut [u8], at: usize, values: [u32; 261], count: usize) -> usize
     requires { 1 ≤ count }
-    ensures { spot out.new result ≡ pushedAll (spot out.old at) (Rattle.pack.specs.Pack.sheetBytes (take count values)) }
+    ensures { spot out.new result ≡ pushed_all (spot out.old at) (Rattle.pack.specs.Pack.sheet_bytes (take count values)) }
 {
     let frame = put_frame(out, at, 18, 1);
     let year = pen::put_le2(out, frame, values[0]);
@@ -70,7 +70,7 @@ fn put_sheet(out: &mut [u8], at: usize, values: [u32; 261], count: usize) -> usi
 // A simple event.
 fn put_simple(out: &mut [u8], at: usize, values: [u32; 261], count: usize) -> usize
     requires { 5 ≤ count }
-    ensures { spot out.new result ≡ pushedAll (spot out.old at) (Rattle.pack.specs.Pack.simpleBytes (take count values)) }
+    ensures { spot out.new result ≡ pushed_all (spot out.old at) (Rattle.pack.specs.Pack.simple_bytes (take count values)) }
 {
     let frame = put_frame(out, at, 53, 2);
     let head = put_head(out, frame, values);
@@ -81,7 +81,7 @@ fn put_simple(out: &mut [u8], at: usize, values: [u32; 261], count: usize) -> us
 fn put_stepped(out: &mut [u8], at: usize, values: [u32; 261], count: usize) -> usize
     requires le_count { 5 ≤ count }
     requires count_bound { count ≤ 261 }
-    ensures { spot out.new result ≡ pushedAll (spot out.old at) (Rattle.pack.specs.Pack.steppedBytes (take count values)) }
+    ensures { spot out.new result ≡ pushed_all (spot out.old at) (Rattle.pack.specs.Pack.stepped_bytes (take count values)) }
 {
     let steps = (count - 5) / 4;
     let frame = put_frame(out, at, 14 + 16 * steps as u32, 3);
@@ -93,7 +93,7 @@ fn put_stepped(out: &mut [u8], at: usize, values: [u32; 261], count: usize) -> u
 // Writes what an entry stands for into a buffer from a place on, and answers the place after it; nothing for an entry that is not whole. 1,038 bytes are
 // room for every entry. Of a number that is too large for its place the lowest bytes are written.
 pub fn pack(out: &mut [u8], at: usize, entry: Entry) -> usize
-    ensures { spot out.new result ≡ pushedAll (spot out.old at) (packedOf entry) }
+    ensures { spot out.new result ≡ pushed_all (spot out.old at) (packed_of entry) }
 {
     let kind = entry.kind;
     let count = entry.count;

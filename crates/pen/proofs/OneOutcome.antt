@@ -20,20 +20,20 @@ use Rattle.pen.proofs.put_le4.Reads as put-le4
 pub put_one : OneOutcome put-kinds.ps put-kinds.r put.Post
 put_one κs a x y v w p q = (ap (λ (s : Spot). s.at) (alike p q), λ i. ((alike p q i).bytes, (tt, (tt, tt))))
 
-pub put-words-one : OneOutcome put-words-kinds.ps put-words-kinds.r put-words.Post
-put-words-one κs a x y v w p q = (ap (λ (s : Spot). s.at) (alike p q), λ i. ((alike p q i).bytes, (tt, (tt, tt))))
+pub put_words_one : OneOutcome put-words-kinds.ps put-words-kinds.r put-words.Post
+put_words_one κs a x y v w p q = (ap (λ (s : Spot). s.at) (alike p q), λ i. ((alike p q i).bytes, (tt, (tt, tt))))
 
-pub put-number-one : OneOutcome put-number-kinds.ps put-number-kinds.r put-number.Post
-put-number-one κs a x y v w p q = (ap (λ (s : Spot). s.at) (alike p q), λ i. ((alike p q i).bytes, (tt, (tt, tt))))
+pub put_number_one : OneOutcome put-number-kinds.ps put-number-kinds.r put-number.Post
+put_number_one κs a x y v w p q = (ap (λ (s : Spot). s.at) (alike p q), λ i. ((alike p q i).bytes, (tt, (tt, tt))))
 
-pub put-two-one : OneOutcome put-two-kinds.ps put-two-kinds.r put_two.Post
-put-two-one κs a x y v w p q = (ap (λ (s : Spot). s.at) (alike p q), λ i. ((alike p q i).bytes, (tt, (tt, tt))))
+pub put_two_one : OneOutcome put-two-kinds.ps put-two-kinds.r put_two.Post
+put_two_one κs a x y v w p q = (ap (λ (s : Spot). s.at) (alike p q), λ i. ((alike p q i).bytes, (tt, (tt, tt))))
 
-pub put-hex-one : OneOutcome put-hex-kinds.ps put-hex-kinds.r put-hex.Post
-put-hex-one κs a x y v w p q = (ap (λ (s : Spot). s.at) (alike p q), λ i. ((alike p q i).bytes, (tt, (tt, tt))))
+pub put_hex_one : OneOutcome put-hex-kinds.ps put-hex-kinds.r put-hex.Post
+put_hex_one κs a x y v w p q = (ap (λ (s : Spot). s.at) (alike p q), λ i. ((alike p q i).bytes, (tt, (tt, tt))))
 
-pub put-le2-one : OneOutcome put-le2-kinds.ps put-le2-kinds.r put-le2.Post
-put-le2-one κs a x y v w p q = (ap (λ (s : Spot). s.at) (alike p q), λ i. ((alike p q i).bytes, (tt, (tt, tt))))
+pub put_le2_one : OneOutcome put-le2-kinds.ps put-le2-kinds.r put-le2.Post
+put_le2_one κs a x y v w p q = (ap (λ (s : Spot). s.at) (alike p q), λ i. ((alike p q i).bytes, (tt, (tt, tt))))
 
-pub put-le4-one : OneOutcome put-le4-kinds.ps put-le4-kinds.r put-le4.Post
-put-le4-one κs a x y v w p q = (ap (λ (s : Spot). s.at) (alike p q), λ i. ((alike p q i).bytes, (tt, (tt, tt))))
+pub put_le4_one : OneOutcome put-le4-kinds.ps put-le4-kinds.r put-le4.Post
+put_le4_one κs a x y v w p q = (ap (λ (s : Spot). s.at) (alike p q), λ i. ((alike p q i).bytes, (tt, (tt, tt))))

@@ -9,61 +9,61 @@ use native.Mathlib.Omega.{arith}
 use native.Mathlib.Numerals.{add-one}
 use borrow.Author.Tests.{leb-true, leb-false, lt-leb, le-leb}
 use Rattle.base.proofs.TestLaws.{Tested, holds, fails, test}
-use Rattle.pen.specs.Pen.{Spot, spot, pushed, pushedAll}
+use Rattle.pen.specs.Pen.{Spot, spot, pushed, pushed_all}
 
 -- a full buffer is as it was, and any other has the byte at the place
-pub full-stays : (s : Spot) (b : ℕ) → length s.bytes ≤ s.at → pushed s b ≡ s
+pub full_stays : (s : Spot) (b : ℕ) → length s.bytes ≤ s.at → pushed s b ≡ s
 unfolding pushed
-full-stays s b h = rw (le-leb (length s.bytes) s.at h) refl
+full_stays s b h = rw (le-leb (length s.bytes) s.at h) refl
 
-pub room-takes : (s : Spot) (b : ℕ) → s.at < length s.bytes → pushed s b ≡ spot (set s.bytes s.at b) (s.at + 1)
+pub room_takes : (s : Spot) (b : ℕ) → s.at < length s.bytes → pushed s b ≡ spot (set s.bytes s.at b) (s.at + 1)
 unfolding pushed
-room-takes s b h = rw (lt-leb (length s.bytes) s.at h) refl
+room_takes s b h = rw (lt-leb (length s.bytes) s.at h) refl
 
-pub one-pushed : (s : Spot) (b : ℕ) → pushedAll s (b ∷ []) ≡ pushed s b
-one-pushed s b = refl
+pub one_pushed : (s : Spot) (b : ℕ) → pushed_all s (b ∷ []) ≡ pushed s b
+one_pushed s b = refl
 
 -- two pieces one after the other are their joined bytes
-pub pushed-all-append : (s : Spot) (a b : List ℕ) → pushedAll s (a ++ b) ≡ pushedAll (pushedAll s a) b
-pushed-all-append s [] b = refl
-pushed-all-append s (x ∷ a) b = pushed-all-append (pushed s x) a b
+pub pushed_all_append : (s : Spot) (a b : List ℕ) → pushed_all s (a ++ b) ≡ pushed_all (pushed_all s a) b
+pushed_all_append s [] b = refl
+pushed_all_append s (x ∷ a) b = pushed_all_append (pushed s x) a b
 
 -- what is left of some words, and its first byte
-pub next-pushed : (s : Spot) (i : ℕ) (words : List ℕ) → i < length words → pushedAll s (drop i words) ≡ pushedAll (pushed s (get_or words i 0)) (drop (i + 1) words)
-next-pushed s i words h = rw (add-one, drop-cons words i 0) refl
+pub next_pushed : (s : Spot) (i : ℕ) (words : List ℕ) → i < length words → pushed_all s (drop i words) ≡ pushed_all (pushed s (get_or words i 0)) (drop (i + 1) words)
+next_pushed s i words h = rw (add-one, drop-cons words i 0) refl
 
-pub none-pushed : (s : Spot) (i : ℕ) (words : List ℕ) → length words ≤ i → pushedAll s (drop i words) ≡ s
-none-pushed s i words h = rw (drop_of_length-le words h) refl
+pub none_pushed : (s : Spot) (i : ℕ) (words : List ℕ) → length words ≤ i → pushed_all s (drop i words) ≡ s
+none_pushed s i words h = rw (drop_of_length-le words h) refl
 
 -- the buffer is as long as it was
 pub one_size : (s : Spot) (b : ℕ) → length (pushed s b).bytes ≡ length s.bytes
 one_size s b = go (test (leb (length s.bytes) s.at))
   where
     go : Tested (leb (length s.bytes) s.at) → length (pushed s b).bytes ≡ length s.bytes
-    go (holds e) = ap (λ (t : Spot). length t.bytes) (full-stays s b (leb-true (length s.bytes) s.at e))
-    go (fails e) = ap (λ (t : Spot). length t.bytes) (room-takes s b (leb-false (length s.bytes) s.at e)) ∙ length-set s.bytes s.at b
+    go (holds e) = ap (λ (t : Spot). length t.bytes) (full_stays s b (leb-true (length s.bytes) s.at e))
+    go (fails e) = ap (λ (t : Spot). length t.bytes) (room_takes s b (leb-false (length s.bytes) s.at e)) ∙ length-set s.bytes s.at b
 
-pub pushed-size : (s : Spot) (l : List ℕ) → length (pushedAll s l).bytes ≡ length s.bytes
-pushed-size s [] = refl
-pushed-size s (b ∷ l) = pushed-size (pushed s b) l ∙ one_size s b
+pub pushed_size : (s : Spot) (l : List ℕ) → length (pushed_all s l).bytes ≡ length s.bytes
+pushed_size s [] = refl
+pushed_size s (b ∷ l) = pushed_size (pushed s b) l ∙ one_size s b
 
 -- a byte takes the place of the first one behind the seam
-push-fits : (a : List ℕ) (x : ℕ) (r : List ℕ) (b : ℕ) → pushed (spot (a ++ (x ∷ r)) (length a)) b ≡ spot ((a ++ (b ∷ [])) ++ r) (length (a ++ (b ∷ [])))
-push-fits a x r b =
+push_fits : (a : List ℕ) (x : ℕ) (r : List ℕ) (b : ℕ) → pushed (spot (a ++ (x ∷ r)) (length a)) b ≡ spot ((a ++ (b ∷ [])) ++ r) (length (a ++ (b ∷ [])))
+push_fits a x r b =
     let long : length (a ++ (x ∷ r)) ≡ length a + suc (length r) = length-append a (x ∷ r) in
     let there : set (a ++ (x ∷ r)) (length a) b ≡ (a ++ (b ∷ [])) ++ r = set-append_seam a x r b ∙ sym (append_snoc a b r) in
     let on : length a + 1 ≡ length (a ++ (b ∷ [])) = sym (length-append a (b ∷ [])) in
-    room-takes (spot (a ++ (x ∷ r)) (length a)) b (omega arith) ∙ (λ i. spot (there i) (on i))
+    room_takes (spot (a ++ (x ∷ r)) (length a)) b (omega arith) ∙ (λ i. spot (there i) (on i))
 
 -- a piece that fits behind the seam
-pub piece-fits : (a l r : List ℕ) → length l ≤ length r → pushedAll (spot (a ++ r) (length a)) l ≡ spot ((a ++ l) ++ drop (length l) r) (length a + length l)
-piece-fits a [] r h = let e : length a ≡ length a + 0 = omega arith in λ i. spot (sym (append-nil a) i ++ r) (e i)
-piece-fits a (b ∷ l) [] h = absurd (omega arith)
-piece-fits a (b ∷ l) (x ∷ r) h =
+pub piece_fits : (a l r : List ℕ) → length l ≤ length r → pushed_all (spot (a ++ r) (length a)) l ≡ spot ((a ++ l) ++ drop (length l) r) (length a + length l)
+piece_fits a [] r h = let e : length a ≡ length a + 0 = omega arith in λ i. spot (sym (append-nil a) i ++ r) (e i)
+piece_fits a (b ∷ l) [] h = absurd (omega arith)
+piece_fits a (b ∷ l) (x ∷ r) h =
     let long : length (a ++ (b ∷ [])) ≡ length a + 1 = length-append a (b ∷ []) in
     let on : length (a ++ (b ∷ [])) + length l ≡ length a + suc (length l) = omega arith in
-    ap (λ (s : Spot). pushedAll s l) (push-fits a x r b) ∙ piece-fits (a ++ (b ∷ [])) l r (omega arith) ∙ (λ i. spot (append_snoc a b l i ++ drop (length l) r) (on i))
+    ap (λ (s : Spot). pushed_all s l) (push_fits a x r b) ∙ piece_fits (a ++ (b ∷ [])) l r (omega arith) ∙ (λ i. spot (append_snoc a b l i ++ drop (length l) r) (on i))
 
 -- a text that fits stands at the front, and what was behind it stays
-pub all-fits : (out l : List ℕ) → length l ≤ length out → pushedAll (spot out 0) l ≡ spot (l ++ drop (length l) out) (length l)
-all-fits out l h = piece-fits [] l out h ∙ (let e : 0 + length l ≡ length l = omega arith in λ i. spot (l ++ drop (length l) out) (e i))
+pub all_fits : (out l : List ℕ) → length l ≤ length out → pushed_all (spot out 0) l ≡ spot (l ++ drop (length l) out) (length l)
+all_fits out l h = piece_fits [] l out h ∙ (let e : 0 + length l ≡ length l = omega arith in λ i. spot (l ++ drop (length l) out) (e i))

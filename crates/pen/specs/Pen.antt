@@ -13,13 +13,13 @@ spot bytes at = record { bytes = bytes; at = at }
 unfoldable pub pushed : Spot → ℕ → Spot
 pushed s b = cond (leb (length s.bytes) s.at) s (spot (set s.bytes s.at b) (s.at + 1))
 
-abbrev pub pushedAll : Spot → List ℕ → Spot
-pushedAll s [] = s
-pushedAll s (b ∷ bs) = pushedAll (pushed s b) bs
+abbrev pub pushed_all : Spot → List ℕ → Spot
+pushed_all s [] = s
+pushed_all s (b ∷ bs) = pushed_all (pushed s b) bs
 
 -- 0 to 9, then a to f
-abbrev pub hexDigit : ℕ → ℕ
-hexDigit d = cond (ltb d 10) (48 + d) (87 + d)
+abbrev pub hex_digit : ℕ → ℕ
+hex_digit d = cond (ltb d 10) (48 + d) (87 + d)
 
-abbrev pub hexText : ℕ → List ℕ
-hexText n = hexDigit (n / 16 % 16) ∷ hexDigit (n % 16) ∷ []
+abbrev pub hex_text : ℕ → List ℕ
+hex_text n = hex_digit (n / 16 % 16) ∷ hex_digit (n % 16) ∷ []

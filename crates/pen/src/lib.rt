@@ -1,9 +1,9 @@
 // Bytes written one after the other into a lent buffer. Each function takes the place of the next byte and hands back the place after what it wrote; what
 // does not fit is left out.
 ghost use Rattle.std.specs.Prelude.{◌%◌, ◌≡◌};
-ghost use Rattle.pen.specs.Pen.{spot, pushed, pushedAll, hexDigit, hexText};
+ghost use Rattle.pen.specs.Pen.{spot, pushed, pushed_all, hex_digit, hex_text};
 ghost use Rattle.wire.specs.Numbers.{le2, le4};
-ghost use Rattle.text.specs.Text.{numberText, twoText};
+ghost use Rattle.text.specs.Text.{number_text, two_text};
 
 // One byte.
 pub fn put(out: &mut [u8], at: usize, b: u8) -> usize
@@ -18,7 +18,7 @@ pub fn put(out: &mut [u8], at: usize, b: u8) -> usize
 
 // Some words.
 pub fn put_words(out: &mut [u8], at: usize, words: &[u8]) -> usize
-    ensures { spot out.new result ≡ pushedAll (spot out.old at) words.now }
+    ensures { spot out.new result ≡ pushed_all (spot out.old at) words.now }
 {
     let mut to = at;
     let mut i = 0;
@@ -32,7 +32,7 @@ pub fn put_words(out: &mut [u8], at: usize, words: &[u8]) -> usize
 
 // A number in decimal digits, the most significant first.
 pub fn put_number(out: &mut [u8], at: usize, n: u32) -> usize
-    ensures { spot out.new result ≡ pushedAll (spot out.old at) (numberText n) }
+    ensures { spot out.new result ≡ pushed_all (spot out.old at) (number_text n) }
 {
     if n < 10 {
         return put(out, at, 48 + n as u8);
@@ -43,7 +43,7 @@ pub fn put_number(out: &mut [u8], at: usize, n: u32) -> usize
 
 // The last two decimal digits of a number.
 pub fn put_two(out: &mut [u8], at: usize, n: u32) -> usize
-    ensures { spot out.new result ≡ pushedAll (spot out.old at) (twoText n) }
+    ensures { spot out.new result ≡ pushed_all (spot out.old at) (two_text n) }
 {
     let to = put(out, at, 48 + (n / 10 % 10) as u8);
     put(out, to, 48 + (n % 10) as u8)
@@ -51,7 +51,7 @@ pub fn put_two(out: &mut [u8], at: usize, n: u32) -> usize
 
 // The hexadecimal digit of a number below 16.
 fn hex_digit(d: u8) -> u8
-    ensures { result ≡ hexDigit (d % 16) }
+    ensures { result ≡ hex_digit (d % 16) }
 {
     let low = d % 16;
     if low < 10 { 48 + low } else { 87 + low }
@@ -59,7 +59,7 @@ fn hex_digit(d: u8) -> u8
 
 // The last two hexadecimal digits of a number.
 pub fn put_hex(out: &mut [u8], at: usize, n: u32) -> usize
-    ensures { spot out.new result ≡ pushedAll (spot out.old at) (hexText n) }
+    ensures { spot out.new result ≡ pushed_all (spot out.old at) (hex_text n) }
 {
     let to = put(out, at, hex_digit((n / 16 % 16) as u8));
     put(out, to, hex_digit((n % 16) as u8))
@@ -67,7 +67,7 @@ pub fn put_hex(out: &mut [u8], at: usize, n: u32) -> usize
 
 // The lowest two bytes of a number, the lowest first.
 pub fn put_le2(out: &mut [u8], at: usize, n: u32) -> usize
-    ensures { spot out.new result ≡ pushedAll (spot out.old at) (le2 n) }
+    ensures { spot out.new result ≡ pushed_all (spot out.old at) (le2 n) }
 {
     let to = put(out, at, (n % 256) as u8);
     put(out, to, (n / 256 % 256) as u8)
@@ -75,7 +75,7 @@ pub fn put_le2(out: &mut [u8], at: usize, n: u32) -> usize
 
 // The four bytes of a number, the lowest first.
 pub fn put_le4(out: &mut [u8], at: usize, n: u32) -> usize
-    ensures { spot out.new result ≡ pushedAll (spot out.old at) (le4 n) }
+    ensures { spot out.new result ≡ pushed_all (spot out.old at) (le4 n) }
 {
     let to = put_le2(out, at, n);
     put_le2(out, to, n / 65536)

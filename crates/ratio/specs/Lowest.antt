@@ -13,8 +13,8 @@ unfoldable pub euclid : ℕ → ℕ → ℕ → ℕ
 euclid zero x y = x
 euclid (suc k) x y = elim (eqb y 0) [ true ↦ x | false ↦ euclid k y (x % y) ]
 
-unfoldable pub gcdOf : ℕ → ℕ → ℕ
-gcdOf a b = euclid (suc b) a b
+unfoldable pub gcd_of : ℕ → ℕ → ℕ
+gcd_of a b = euclid (suc b) a b
 
-unfoldable pub lowestOf : ℕ → ℕ → Fraction
-lowestOf n d = record { top = n / gcdOf n d; bottom = d / gcdOf n d }
+unfoldable pub lowest_of : ℕ → ℕ → Fraction
+lowest_of n d = record { top = n / gcd_of n d; bottom = d / gcd_of n d }

@@ -1,6 +1,6 @@
 // Exact fractions in lowest terms.
 ghost use Rattle.std.specs.Prelude.{◌≡◌};
-ghost use Rattle.ratio.specs.Lowest.{gcdOf, lowestOf};
+ghost use Rattle.ratio.specs.Lowest.{gcd_of, lowest_of};
 
 #[derive(Drop)]
 pub struct Fraction {
@@ -10,7 +10,7 @@ pub struct Fraction {
 
 // The greatest common divisor, by Euclid's rule.
 pub fn gcd(a: u64, b: u64) -> u64
-    ensures { result ≡ gcdOf a b }
+    ensures { result ≡ gcd_of a b }
 {
     let mut x = a;
     let mut y = b;
@@ -24,7 +24,7 @@ pub fn gcd(a: u64, b: u64) -> u64
 
 // The fraction n / d in lowest terms; zero is 0/1. Where d is 0 there is none, and so is the bottom.
 pub fn lowest(n: u64, d: u64) -> Fraction
-    ensures { result ≡ lowestOf n d }
+    ensures { result ≡ lowest_of n d }
 {
     let g = gcd(n, d);
     if g == 0 {

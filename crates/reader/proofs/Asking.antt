@@ -3,14 +3,14 @@ use mathlib.Core.Path.{◌≡◌, ap, ◌∙◌}
 use Prim.Native.Nat.{ℕ}
 use mathlib.Core.List.{List}
 use denote.Ref.{Bor}
-use Rattle.wire.specs.Book.{whichAt, recordAt, after_at}
+use Rattle.wire.specs.Book.{which_at, record_at, after_at}
 use Rattle.reader.specs.declared.Reader.{Reader}
 use Rattle.reader.specs.declared.Answer.{Answer}
 
 -- what `next` says of its answer
 abbrev pub Answered : Reader → Answer → Type 0
 Answered r a =
-    (a.which ≡ whichAt r.book.now r.at) × (a.bytes.now ≡ recordAt r.book.now r.at) × (a.reader.book ≡ r.book)
+    (a.which ≡ which_at r.book.now r.at) × (a.bytes.now ≡ record_at r.book.now r.at) × (a.reader.book ≡ r.book)
     × (a.reader.at ≡ after_at r.book.now r.at)
 
 -- a reader by its parts
@@ -18,5 +18,5 @@ abbrev pub reading : Bor (List ℕ) → ℕ → Reader
 reading b m = record { book = b; at = m }
 
 -- there is no other reader of the book at the offset
-pub reader-is : (s : Bor (List ℕ)) (r : Reader) (m : ℕ) → (r.book ≡ s) × (r.at ≡ m) → r ≡ reading s m
-reader-is s r m e = ap (λ (b : Bor (List ℕ)). reading b r.at) e.0 ∙ ap (reading s) e.1
+pub reader_is : (s : Bor (List ℕ)) (r : Reader) (m : ℕ) → (r.book ≡ s) × (r.at ≡ m) → r ≡ reading s m
+reader_is s r m e = ap (λ (b : Bor (List ℕ)). reading b r.at) e.0 ∙ ap (reading s) e.1

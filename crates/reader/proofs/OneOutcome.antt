@@ -1,5 +1,5 @@
 -- No second outcome meets what a public function of this crate promises. A reader and an answer hold a slice, so the promise is taken
--- from the clauses as they stand in src/: in every model they state one plain fact (`new-says`, `from-says`, `next-says`), and that fact is of one
+-- from the clauses as they stand in src/: in every model they state one plain fact (`new_says`, `from_says`, `next_says`), and that fact is of one
 -- outcome. Of an answer's bytes it decides what they are, and not where they lie. Assumes nothing.
 use Prim.Native.Nat.{ℕ}
 use mathlib.Core.Path.{◌≡◌, refl}
@@ -17,7 +17,7 @@ use denote.Triple.Entry.{Args, Res}
 use Rattle.base.proofs.OneOutcome.{alike}
 use Rattle.reader.specs.declared.Reader.{Reader}
 use Rattle.reader.specs.declared.Answer.{Answer}
-use Rattle.reader.proofs.Asking.{Answered, reader-is}
+use Rattle.reader.proofs.Asking.{Answered, reader_is}
 use Rattle.reader.specs.contracts.Reader.new as new
 use Rattle.reader.specs.contracts.Reader.from as makes
 use Rattle.reader.specs.contracts.Reader.next as next
@@ -34,27 +34,27 @@ abbrev Made : Bor (List ℕ) → ℕ → Reader → Type 0
 Made book at r = (r.book ≡ book) × (r.at ≡ at)
 
 made_alike : (book : Bor (List ℕ)) (at : ℕ) (x y : Reader) → Made book at x → Made book at y → x ≡ y
-made_alike book at x y p q = alike (reader-is book x at p) (reader-is book y at q)
+made_alike book at x y p q = alike (reader_is book x at p) (reader_is book y at q)
 
 -- what is seen of an answer
 abbrev seen : Answer → ℕ × List ℕ × Reader
 seen a = (a.which, a.bytes.now, a.reader)
 
 module _ {M : Type 1} {𝓤 : Ura M} (𝓛 : Logic 𝓤) (mem : Memory → SProp 𝓤) (run : Routine → Fun 𝓤) where
-  pub new-says : (κs : Lfts 1) (a : Args new.signature κs) (r : Reader) (e : AtExit new.ended κs)
+  pub new_says : (κs : Lfts 1) (a : Args new.signature κs) (r : Reader) (e : AtExit new.ended κs)
       → (new.clauses 𝓛 mem run κs a).ensures tt r e ≡ fact 𝓤 (Made a.0 0 r)
-  new-says κs a r e = refl
+  new_says κs a r e = refl
 
-  pub from-says : (κs : Lfts 1) (a : Args makes.signature κs) (r : Reader) (e : AtExit makes.ended κs)
+  pub from_says : (κs : Lfts 1) (a : Args makes.signature κs) (r : Reader) (e : AtExit makes.ended κs)
       → (makes.clauses 𝓛 mem run κs a).ensures tt r e ≡ fact 𝓤 (Made a.0 a.1.0 r)
-  from-says κs a r e = refl
+  from_says κs a r e = refl
 
-  pub next-says : (κs : Lfts 1) (a : Args next.signature κs) (r : Answer) (e : AtExit next.ended κs)
+  pub next_says : (κs : Lfts 1) (a : Args next.signature κs) (r : Answer) (e : AtExit next.ended κs)
       → (next.clauses 𝓛 mem run κs a).ensures tt r e ≡ fact 𝓤 (Answered a.0 r)
-  next-says κs a r e = refl
+  next_says κs a r e = refl
 
-pub new-one : OneSeen new.ended (λ κs a. Made a.0 0) (λ κs r. r)
-new-one κs a x y v w p q = (made_alike a.0 0 x y p q, refl)
+pub new_one : OneSeen new.ended (λ κs a. Made a.0 0) (λ κs r. r)
+new_one κs a x y v w p q = (made_alike a.0 0 x y p q, refl)
 
 pub from_one : OneSeen makes.ended (λ κs a. Made a.0 a.1.0) (λ κs r. r)
 from_one κs a x y v w p q = (made_alike a.0 a.1.0 x y p q, refl)

@@ -15,14 +15,14 @@ use Rattle.wire.proofs.Stand.TheLaws as TStand'
 abbrev pub StandR : RattleType
 StandR = TStand.the_row
 
-abbrev pub stand-mach : Stand → Val
-stand-mach x = LL.tuple_val TStand.the_type TStand'.the_laws ((TStand.the_type).to x)
+abbrev pub stand_mach : Stand → Val
+stand_mach x = LL.tuple_val TStand.the_type TStand'.the_laws ((TStand.the_type).to x)
 
--- the machine value of a `Stand` can only be `stand-mach` of it
-pub stand-tells : Tells StandR (Is StandR) (λ x. stand-mach x ∷ [])
-stand-tells = LL.tells TStand.the_type TStand'.the_laws
+-- the machine value of a `Stand` can only be `stand_mach` of it
+pub stand_tells : Tells StandR (Is StandR) (λ x. stand_mach x ∷ [])
+stand_tells = LL.tells TStand.the_type TStand'.the_laws
 
 module _ {M : Type 1} {𝓤 : Ura M} (𝓛 : Logic 𝓤) where
   -- the machine value of a `Stand` has the struct's type, and each number in it fits its width
-  pub stand-typed : (x : Stand) (w : Val) → Is StandR x (w ∷ []) → Holds (has_ty TStand'.mir w) × WT w
-  stand-typed x w g = ((LL.lawful TStand.the_type TStand'.the_laws 𝓛).typed x (w ∷ []) g).0
+  pub stand_typed : (x : Stand) (w : Val) → Is StandR x (w ∷ []) → Holds (has_ty TStand'.mir w) × WT w
+  stand_typed x w g = ((LL.lawful TStand.the_type TStand'.the_laws 𝓛).typed x (w ∷ []) g).0

@@ -1,8 +1,8 @@
--- What asking a reader is, on lists. A reader of a book stands at an offset. Asked there, it answers `whichAt book at` and the bytes
--- `recordAt book at`, and stands at `after_at book at` from then on (the contract of `Reader::next`).
+-- What asking a reader is, on lists. A reader of a book stands at an offset. Asked there, it answers `which_at book at` and the bytes
+-- `record_at book at`, and stands at `after_at book at` from then on (the contract of `Reader::next`).
 use Rattle.std.specs.Prelude.{ℕ, zero, suc, ◌+◌, ◌-◌, ◌<◌, ◌≤◌, List, [], ◌∷◌, cond, ◌⊎◌, eqb, length}
 use Rattle.wire.specs.Numbers.{le16}
-use Rattle.wire.specs.Book.{whichAt, recordAt, after_at}
+use Rattle.wire.specs.Book.{which_at, record_at, after_at}
 
 -- "the end when no byte is left"
 abbrev pub NoneLeft : List ℕ → ℕ → Type 0
@@ -19,14 +19,14 @@ WholeRecord book at = (4 ≤ le16 book at) × (at + le16 book at ≤ length book
 -- asked from an offset on, until no record is answered, at most n times: the records
 unfoldable pub asked : ℕ → List ℕ → ℕ → List (List ℕ)
 asked zero book at = []
-asked (suc n) book at = cond (eqb (whichAt book at) 0) (recordAt book at ∷ asked n book (after_at book at)) []
+asked (suc n) book at = cond (eqb (which_at book at) 0) (record_at book at ∷ asked n book (after_at book at)) []
 
 -- and where the reader is left
 unfoldable pub stopped : ℕ → List ℕ → ℕ → ℕ
 stopped zero book at = at
-stopped (suc n) book at = cond (eqb (whichAt book at) 0) (stopped n book (after_at book at)) at
+stopped (suc n) book at = cond (eqb (which_at book at) 0) (stopped n book (after_at book at)) at
 
 -- where the reader stands that is asked n times, whatever it answers
-unfoldable pub standsAfter : ℕ → List ℕ → ℕ → ℕ
-standsAfter zero book at = at
-standsAfter (suc n) book at = standsAfter n book (after_at book at)
+unfoldable pub stands_after : ℕ → List ℕ → ℕ → ℕ
+stands_after zero book at = at
+stands_after (suc n) book at = stands_after n book (after_at book at)

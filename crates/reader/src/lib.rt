@@ -1,6 +1,6 @@
 // The book reader: it remembers the book it was given and where the next record starts. All rules stand in wire.
 ghost use Rattle.std.specs.Prelude.{◌≡◌};
-ghost use Rattle.wire.specs.Book.{whichAt, recordAt, after_at};
+ghost use Rattle.wire.specs.Book.{which_at, record_at, after_at};
 
 // A book, and the offset where its next record starts; the offset may lie past the book's end.
 #[derive(Drop)]
@@ -35,7 +35,7 @@ impl<'a> Reader<'a> {
 
     // The next answer.
     pub fn next(self) -> Answer<'a>
-        ensures { (result.which ≡ whichAt self.entry.book.now self.entry.at) × (result.bytes.now ≡ recordAt self.entry.book.now self.entry.at) × (result.reader.book ≡ self.entry.book) × (result.reader.at ≡ after_at self.entry.book.now self.entry.at) }
+        ensures { (result.which ≡ which_at self.entry.book.now self.entry.at) × (result.bytes.now ≡ record_at self.entry.book.now self.entry.at) × (result.reader.book ≡ self.entry.book) × (result.reader.at ≡ after_at self.entry.book.now self.entry.at) }
     {
         let book = self.book;
         let s = wire::stand_at(book, self.at);

@@ -4,5 +4,5 @@ use Rattle.base.proofs.OneOutcome.{OneOutcome, alike}
 use Rattle.record.proofs.judge.Kinds as judge-kinds
 use Rattle.record.proofs.judge.Reads as judge
 
-pub judge-one : OneOutcome judge-kinds.ps judge-kinds.r judge.Post
-judge-one κs a x y v w p q = (alike p q, refl)
+pub judge_one : OneOutcome judge-kinds.ps judge-kinds.r judge.Post
+judge_one κs a x y v w p q = (alike p q, refl)

@@ -5,21 +5,21 @@ use mathlib.Core.List.{List}
 use mathlib.Core.Bool.{◌||◌, not}
 use lib.ListN.{length}
 use lib.Dec.{ltb, eqb}
-use Rattle.fields.specs.Fields.{stepCount}
-use Rattle.fields.specs.Table.{sheetFields, simpleFields, steppedFields, length_of}
+use Rattle.fields.specs.Fields.{step_count}
+use Rattle.fields.specs.Table.{sheet_fields, simple_fields, stepped_fields, length_of}
 use Rattle.fields.proofs.TableLaws.{lengths}
-use Rattle.record.specs.Rules.{by_kind, lengthWrong}
+use Rattle.record.specs.Rules.{by_kind, length_wrong}
 
-pub lengths-asked :
+pub lengths_asked :
     (kind : ℕ) (s : List ℕ) →
-    lengthWrong kind s ≡
+    length_wrong kind s ≡
     by_kind kind
-    (not (eqb (length s) (length_of sheetFields)))
-    (not (eqb (length s) (length_of simpleFields)))
-    (ltb (length s) 14 || eqb (stepCount s) 0 || ltb 64 (stepCount s) || not (eqb (length s) (length_of (steppedFields (stepCount s)))))
-lengths-asked kind s =
+    (not (eqb (length s) (length_of sheet_fields)))
+    (not (eqb (length s) (length_of simple_fields)))
+    (ltb (length s) 14 || eqb (step_count s) 0 || ltb 64 (step_count s) || not (eqb (length s) (length_of (stepped_fields (step_count s)))))
+lengths_asked kind s =
     ap
     (λ (n : ℕ).
     by_kind kind (not (eqb (length s) 18)) (not (eqb (length s) 53))
-    (ltb (length s) 14 || eqb (stepCount s) 0 || ltb 64 (stepCount s) || not (eqb (length s) n)))
-    (sym (lengths.2 (stepCount s)))
+    (ltb (length s) 14 || eqb (step_count s) 0 || ltb 64 (step_count s) || not (eqb (length s) n)))
+    (sym (lengths.2 (step_count s)))

@@ -2,25 +2,25 @@
 use Rattle.std.specs.Prelude.{ℕ, List, cond, eqb}
 use Rattle.base.specs.First.{first}
 use Rattle.wire.specs.Frame.{kind_of}
-use Rattle.annex.specs.Simple.{simpleFigures}
-use Rattle.annex.specs.Stepped.{lastTime, steppedFigures}
+use Rattle.annex.specs.Simple.{simple_figures}
+use Rattle.annex.specs.Stepped.{last_time, stepped_figures}
 use Rattle.fields.specs.declared.Sheet.{Sheet}
-use Rattle.fields.specs.Fields.{sheetIn, headIn, simpleIn, stepsIn}
+use Rattle.fields.specs.Fields.{sheet_in, head_in, simple_in, steps_in}
 use Rattle.verdict.specs.declared.Verdict.{Verdict}
-use Rattle.verdict.specs.Verdict.{refusedWith, sheetVerdict, eventVerdict}
+use Rattle.verdict.specs.Verdict.{refused_with, sheet_verdict, event_verdict}
 use Rattle.record.specs.Rules.{rules}
 
 -- what an accepted record of each kind comes to
-abbrev pub acceptedAt : ℕ → List ℕ → Sheet → Verdict
-acceptedAt kind s sheet =
-    cond (eqb kind 1) (sheetVerdict (sheetIn s))
-    (cond (eqb kind 2) (eventVerdict sheet (headIn s) (simpleIn s).t3 (simpleFigures (simpleIn s)))
-    (eventVerdict sheet (headIn s) (lastTime (headIn s).t0 (stepsIn s)) (steppedFigures (headIn s).t0 (stepsIn s))))
+abbrev pub accepted_at : ℕ → List ℕ → Sheet → Verdict
+accepted_at kind s sheet =
+    cond (eqb kind 1) (sheet_verdict (sheet_in s))
+    (cond (eqb kind 2) (event_verdict sheet (head_in s) (simple_in s).t3 (simple_figures (simple_in s)))
+    (event_verdict sheet (head_in s) (last_time (head_in s).t0 (steps_in s)) (stepped_figures (head_in s).t0 (steps_in s))))
 
 -- the smallest number that applies, 0 for an accepted record
-unfoldable pub recordAnswer : List ℕ → Sheet → List ℕ → ℕ → ℕ
-recordAnswer s sheet m events = first (rules s sheet m events)
+unfoldable pub record_answer : List ℕ → Sheet → List ℕ → ℕ → ℕ
+record_answer s sheet m events = first (rules s sheet m events)
 
-unfoldable pub verdictOf : List ℕ → Sheet → List ℕ → ℕ → Verdict
-verdictOf s sheet m events =
-    cond (eqb (recordAnswer s sheet m events) 0) (acceptedAt (kind_of s) s sheet) (refusedWith sheet (recordAnswer s sheet m events))
+unfoldable pub verdict_of : List ℕ → Sheet → List ℕ → ℕ → Verdict
+verdict_of s sheet m events =
+    cond (eqb (record_answer s sheet m events) 0) (accepted_at (kind_of s) s sheet) (refused_with sheet (record_answer s sheet m events))

@@ -1,8 +1,8 @@
 // Judging one record: from its bytes, the sheet, the map and the number of events to a verdict.
 ghost use Rattle.std.specs.Prelude.{◌≡◌, cond, []};
 ghost use Rattle.base.specs.First.{first};
-ghost use Rattle.record.specs.Inside.{firstOf, simpleTests, steppedTests, verdictAt};
-ghost use Rattle.record.specs.Verdict.{verdictOf};
+ghost use Rattle.record.specs.Inside.{first_of, simple_tests, stepped_tests, verdict_at};
+ghost use Rattle.record.specs.Verdict.{verdict_of};
 
 use annex::{Figures, Simple};
 use fields::{Head, Sheet};
@@ -29,7 +29,7 @@ fn first_of_four(c12: bool, c13: bool, c14: bool, c15: bool) -> u8
 
 // The smallest number that applies to an event of the right length.
 fn first_of(c5: bool, c7: bool, c10: bool, c11: bool, rest: u8) -> u8
-    ensures { result ≡ firstOf c5 c7 c10 c11 rest }
+    ensures { result ≡ first_of c5 c7 c10 c11 rest }
 {
     if c5 {
         return 5;
@@ -48,7 +48,7 @@ fn first_of(c5: bool, c7: bool, c10: bool, c11: bool, rest: u8) -> u8
 
 // A record of kind 1.
 fn judge_sheet(bytes: &[u8], sheet: Sheet) -> Verdict
-    ensures { result ≡ verdictAt 1 bytes.now sheet [] 0 }
+    ensures { result ≡ verdict_at 1 bytes.now sheet [] 0 }
 {
     if bytes.len() != 18 {
         return verdict::refuse(sheet, 4);
@@ -73,7 +73,7 @@ fn judge_sheet(bytes: &[u8], sheet: Sheet) -> Verdict
 
 // The smallest number that applies to a simple event, 0 where none does. Each test is made only where none before it applies.
 fn simple_answer(head: Head, e: Simple, sheet: Sheet, map: &[u8], events: u16) -> u8
-    ensures { result ≡ first (simpleTests head e sheet map.now events) }
+    ensures { result ≡ first (simple_tests head e sheet map.now events) }
 {
     let n = sheet.totals;
     let level = codes::level_of(head.voltage);
@@ -108,7 +108,7 @@ fn simple_answer(head: Head, e: Simple, sheet: Sheet, map: &[u8], events: u16) -
 
 // A record of kind 2.
 fn judge_simple(bytes: &[u8], sheet: Sheet, map: &[u8], events: u16) -> Verdict
-    ensures { result ≡ verdictAt 2 bytes.now sheet map.now events }
+    ensures { result ≡ verdict_at 2 bytes.now sheet map.now events }
 {
     if bytes.len() != 53 {
         return verdict::refuse(sheet, 4);
@@ -124,7 +124,7 @@ fn judge_simple(bytes: &[u8], sheet: Sheet, map: &[u8], events: u16) -> Verdict
 
 // The smallest number that applies to a stepped event, by the walk over its steps, 0 where none does.
 fn stepped_answer(head: Head, w: Walk, sheet: Sheet, map: &[u8], events: u16) -> u8
-    ensures { result ≡ first (steppedTests head w sheet map.now events) }
+    ensures { result ≡ first (stepped_tests head w sheet map.now events) }
 {
     let n = sheet.totals;
     let course = w.course;
@@ -146,7 +146,7 @@ fn stepped_answer(head: Head, w: Walk, sheet: Sheet, map: &[u8], events: u16) ->
 
 // A record of kind 3.
 fn judge_stepped(bytes: &[u8], sheet: Sheet, map: &[u8], events: u16) -> Verdict
-    ensures { result ≡ verdictAt 3 bytes.now sheet map.now events }
+    ensures { result ≡ verdict_at 3 bytes.now sheet map.now events }
 {
     let steps = wire::byte_at(bytes, 13);
     let size = 14 + 16 * steps as usize;
@@ -165,7 +165,7 @@ fn judge_stepped(bytes: &[u8], sheet: Sheet, map: &[u8], events: u16) -> Verdict
 
 // The verdict on a record at the book entry, for a sheet, a map and a number of events in the ledger.
 pub fn judge(bytes: &[u8], sheet: Sheet, map: &[u8], events: u16) -> Verdict
-    ensures { result ≡ verdictOf bytes.now sheet map.now events }
+    ensures { result ≡ verdict_of bytes.now sheet map.now events }
 {
     if !wire::is_framed(bytes) {
         return verdict::refuse(sheet, 2);

@@ -4,19 +4,19 @@ use mathlib.Core.Path.{◌≡◌, ap}
 use mathlib.Core.Bool.{Bool, true, not}
 use borrow.Author.Tests.{ltb-false, le-ltb, not-false}
 use Rattle.base.proofs.FirstLaws.{clear, unclear}
-use Rattle.records.specs.Pieces.{mostRefused, endRules, endAnswer, pieceRules, pieceAnswer}
+use Rattle.records.specs.Pieces.{most_refused, end_rules, end_answer, piece_rules, piece_answer}
 
 -- nothing is wrong with what is filled, with the count or with what is told
-pub piece-clear : (fit : Bool) (refused room filled : ℕ) → pieceAnswer fit refused room filled ≡ 0 → (fit ≡ true) × (refused ≤ mostRefused) × (filled ≤ room)
-piece-clear fit refused room filled a =
-    let c = clear 0 (pieceRules fit refused room filled) (tt, (tt, (tt, tt))) a in
-    (not-false fit c.0, ltb-false mostRefused refused c.1.0, ltb-false room filled c.1.1.0)
+pub piece_clear : (fit : Bool) (refused room filled : ℕ) → piece_answer fit refused room filled ≡ 0 → (fit ≡ true) × (refused ≤ most_refused) × (filled ≤ room)
+piece_clear fit refused room filled a =
+    let c = clear 0 (piece_rules fit refused room filled) (tt, (tt, (tt, tt))) a in
+    (not-false fit c.0, ltb-false most_refused refused c.1.0, ltb-false room filled c.1.1.0)
 
-pub end-clear : (fit : Bool) (refused : ℕ) → endAnswer fit refused ≡ 0 → (fit ≡ true) × (refused ≤ mostRefused)
-end-clear fit refused a =
-    let c = clear 0 (endRules fit refused) (tt, (tt, tt)) a in
-    (not-false fit c.0, ltb-false mostRefused refused c.1.0)
+pub end_clear : (fit : Bool) (refused : ℕ) → end_answer fit refused ≡ 0 → (fit ≡ true) × (refused ≤ most_refused)
+end_clear fit refused a =
+    let c = clear 0 (end_rules fit refused) (tt, (tt, tt)) a in
+    (not-false fit c.0, ltb-false most_refused refused c.1.0)
 
 -- and the other way round
-pub end-goes-on : (fit : Bool) (refused : ℕ) → fit ≡ true → refused ≤ mostRefused → endAnswer fit refused ≡ 0
-end-goes-on fit refused e few = unclear (endRules fit refused) (ap not e, (le-ltb mostRefused refused few, tt))
+pub end_goes_on : (fit : Bool) (refused : ℕ) → fit ≡ true → refused ≤ most_refused → end_answer fit refused ≡ 0
+end_goes_on fit refused e few = unclear (end_rules fit refused) (ap not e, (le-ltb most_refused refused few, tt))

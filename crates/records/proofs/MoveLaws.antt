@@ -25,8 +25,8 @@ module _ (b : List ℕ) (start : ℕ) where
       ap (λ (k : ℕ). get_or b k 0) same ∙ sym (get_or-drop start b n 0)
 
   -- one byte more
-  front-more : (n : ℕ) → start + n < length b → set (front b start n) n (get_or (front b start n) (start + n) 0) ≡ front b start (n + 1)
-  front-more n h =
+  front_more : (n : ℕ) → start + n < length b → set (front b start n) n (get_or (front b start n) (start + n) 0) ≡ front b start (n + 1)
+  front_more n h =
       let s = drop start b in
       let written : set (take n s ++ drop (0 + n) b) (0 + n) (get_or s n 0) ≡ take (suc n) s ++ drop (0 + suc n) b =
       paste-suc b 0 s n 0 (omega arith) (omega (arith, length-drop start b)) in
@@ -37,13 +37,13 @@ module _ (b : List ℕ) (start : ℕ) where
       (λ i. take (next i) s ++ drop (past i) b)
 
   module _ (end : ℕ) where
-    part-either : Tested (leb start end) → end ≤ length b → take (end - start) (drop start b) ≡ drop start (take end b)
-    part-either (holds e) l =
+    part_either : Tested (leb start end) → end ≤ length b → take (end - start) (drop start b) ≡ drop start (take end b)
+    part_either (holds e) l =
         let o : start ≤ end = leb-true start end e in
         let sum : end ≡ start + (end - start) = omega arith in
         sym (ap (λ (k : ℕ). drop start (take k b)) sum ∙ ap (drop start) (take-add start (end - start) b) ∙
         drop_at (take start b) (take (end - start) (drop start b)) start (length-take-le start b (omega arith)))
-    part-either (fails e) l =
+    part_either (fails e) l =
         let o : end < start = leb-false start end e in
         let none : end - start ≡ 0 = omega arith in
         ap (λ (k : ℕ). take k (drop start b)) none ∙ sym (drop_of_length-le (take end b) {i = start} (omega (arith, length-take end b)))
@@ -51,12 +51,12 @@ module _ (b : List ℕ) (start : ℕ) where
     -- where the buffer has the bytes up to end, the move puts those from start on at its front
     pub moved_front : end ≤ length b → front b start (end - start) ≡ moved b start end
     unfolding moved
-    moved_front l = rw (le-ltb (length b) end l) (ap (λ (xs : List ℕ). xs ++ drop (end - start) b) (part-either (test (leb start end)) l))
+    moved_front l = rw (le-ltb (length b) end l) (ap (λ (xs : List ℕ). xs ++ drop (end - start) b) (part_either (test (leb start end)) l))
 
     -- an end past the buffer moves nothing
-    pub moved-short : length b < end → b ≡ moved b start end
+    pub moved_short : length b < end → b ≡ moved b start end
     unfolding moved
-    moved-short h = rw (lt-ltb (length b) end h) refl
+    moved_short h = rw (lt-ltb (length b) end h) refl
 
 -- at a turn of the loop over the bytes between start and end
 pub record Moving (b₀ : List ℕ) (start end : ℕ) (b : List ℕ) (from to : ℕ) : Type 0 where
@@ -66,23 +66,23 @@ pub record Moving (b₀ : List ℕ) (start end : ℕ) (b : List ℕ) (from to : 
   pub bytes : b ≡ front b₀ start to
 
 module _ (b₀ : List ℕ) (start end : ℕ) where
-  pub moving-begins : Moving b₀ start end b₀ start 0
-  moving-begins = record { place = omega arith; few = omega arith; size = refl; bytes = refl }
+  pub moving_begins : Moving b₀ start end b₀ start 0
+  moving_begins = record { place = omega arith; few = omega arith; size = refl; bytes = refl }
 
   module _ (b : List ℕ) (from to : ℕ) (m : Moving b₀ start end b from to) (l : end ≤ length b₀) where
     -- a turn: the byte at `from` is copied to `to`, and both go on by one
-    pub moving-on : from < end → Moving b₀ start end (set b to (get_or b from 0)) (from + 1) (to + 1)
-    moving-on h =
+    pub moving_on : from < end → Moving b₀ start end (set b to (get_or b from 0)) (from + 1) (to + 1)
+    moving_on h =
         let p = m.place in
         record {
           place = omega arith;
           few = omega arith;
           size = length-set b to (get_or b from 0) ∙ m.size;
-          bytes = (λ i. set (m.bytes i) to (get_or (m.bytes i) (m.place i) 0)) ∙ front-more b₀ start to (omega arith);
+          bytes = (λ i. set (m.bytes i) to (get_or (m.bytes i) (m.place i) 0)) ∙ front_more b₀ start to (omega arith);
         }
 
     -- at the end the buffer is the moved one
-    pub moving-ends : end ≤ from → b ≡ moved b₀ start end
-    moving-ends h =
+    pub moving_ends : end ≤ from → b ≡ moved b₀ start end
+    moving_ends h =
         let all : to ≡ end - start = omega (arith, m.place, m.few) in
         m.bytes ∙ ap (front b₀ start) all ∙ moved_front b₀ start end l

@@ -12,17 +12,17 @@ use Rattle.records.proofs.end_answer.Reads as end-answer
 use Rattle.records.proofs.piece_answer.Kinds as piece-answer-kinds
 use Rattle.records.proofs.piece_answer.Reads as piece-answer
 
-pub one-if-refused-one : OneOutcome one-if-refused-kinds.ps one-if-refused-kinds.r one-if-refused.Post
-one-if-refused-one κs a x y v w p q = (alike p q, refl)
+pub one_if_refused_one : OneOutcome one-if-refused-kinds.ps one-if-refused-kinds.r one-if-refused.Post
+one_if_refused_one κs a x y v w p q = (alike p q, refl)
 
-pub is-dead-one : OneOutcome is-dead-kinds.ps is-dead-kinds.r is-dead.Post
-is-dead-one κs a x y v w p q = (alike p q, refl)
+pub is_dead_one : OneOutcome is-dead-kinds.ps is-dead-kinds.r is-dead.Post
+is_dead_one κs a x y v w p q = (alike p q, refl)
 
-pub move-to-front-one : OneOutcome move-to-front-kinds.ps move-to-front-kinds.r move-to-front.Post
-move-to-front-one κs a x y v w p q = (refl, λ i. (alike p q i, (tt, (tt, tt))))
+pub move_to_front_one : OneOutcome move-to-front-kinds.ps move-to-front-kinds.r move-to-front.Post
+move_to_front_one κs a x y v w p q = (refl, λ i. (alike p q i, (tt, (tt, tt))))
 
-pub end-answer-one : OneOutcome end-answer-kinds.ps end-answer-kinds.r end-answer.Post
-end-answer-one κs a x y v w p q = (alike p q, refl)
+pub end_answer_one : OneOutcome end-answer-kinds.ps end-answer-kinds.r end-answer.Post
+end_answer_one κs a x y v w p q = (alike p q, refl)
 
-pub piece-answer-one : OneOutcome piece-answer-kinds.ps piece-answer-kinds.r piece-answer.Post
-piece-answer-one κs a x y v w p q = (alike p q, refl)
+pub piece_answer_one : OneOutcome piece-answer-kinds.ps piece-answer-kinds.r piece-answer.Post
+piece_answer_one κs a x y v w p q = (alike p q, refl)

@@ -24,9 +24,9 @@ module _ {F : Type 0} (t : Taker F) where
   pieces_of f [] = []
   pieces_of f (c ∷ cs) = piece_of f c ∷ pieces_of (t.next f c) cs
 
-  abbrev pub afterCalls : F → List Call → F
-  afterCalls f [] = f
-  afterCalls f (c ∷ cs) = afterCalls (t.next f c) cs
+  abbrev pub after_calls : F → List Call → F
+  after_calls f [] = f
+  after_calls f (c ∷ cs) = after_calls (t.next f c) cs
 
   -- each call is answered 0, with a buffer that has the bytes held at its front as the call before left them
   abbrev pub Answered : F → List ℕ → List Call → Type 0

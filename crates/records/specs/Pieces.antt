@@ -2,16 +2,16 @@
 use Rattle.std.specs.Prelude.{ℕ, ◌-◌, List, [], ◌∷◌, ◌++◌, Bool, ◌&&◌, not, cond, length, take, drop, leb, ltb}
 use Rattle.base.specs.First.{Rule, first}
 use Rattle.wire.specs.Numbers.{le16}
-use Rattle.wire.specs.Cut.{recordsOf, stopFrom}
-use Rattle.records.specs.Records.{takeAll}
+use Rattle.wire.specs.Cut.{records_of, stop_from}
+use Rattle.records.specs.Records.{take_all}
 
 -- the bytes of a file past its whole records
 abbrev pub rest_of : List ℕ → List ℕ
-rest_of file = drop (stopFrom file 0) file
+rest_of file = drop (stop_from file 0) file
 
 -- what is held states a length below 4: no record can follow
-abbrev pub deadRest : List ℕ → ℕ → Bool
-deadRest bytes held = leb 2 held && ltb (le16 bytes 0) 4
+abbrev pub dead_rest : List ℕ → ℕ → Bool
+dead_rest bytes held = leb 2 held && ltb (le16 bytes 0) 4
 
 -- a reading in pieces: the state after the records so far, and the bytes that are no whole record yet
 pub record Pieces (S : Type 0) : Type 0 where
@@ -24,12 +24,12 @@ beginning st = record { state = st; rest = [] }
 -- one piece more: its bytes follow those that were held
 unfoldable pub fed : {S : Type 0} → (S → List ℕ → S) → Pieces S → List ℕ → Pieces S
 fed step p piece =
-    cond (deadRest p.rest (length p.rest)) p
-    (record { state = takeAll step p.state (recordsOf (p.rest ++ piece)); rest = rest_of (p.rest ++ piece) })
+    cond (dead_rest p.rest (length p.rest)) p
+    (record { state = take_all step p.state (records_of (p.rest ++ piece)); rest = rest_of (p.rest ++ piece) })
 
-abbrev pub fedAll : {S : Type 0} → (S → List ℕ → S) → Pieces S → List (List ℕ) → Pieces S
-fedAll step p [] = p
-fedAll step p (q ∷ qs) = fedAll step (fed step p q) qs
+abbrev pub fed_all : {S : Type 0} → (S → List ℕ → S) → Pieces S → List (List ℕ) → Pieces S
+fed_all step p [] = p
+fed_all step p (q ∷ qs) = fed_all step (fed step p q) qs
 
 -- the bytes from start to end at the front, and what stood past them as it was
 unfoldable pub moved : List ℕ → ℕ → ℕ → List ℕ
@@ -42,42 +42,42 @@ pub record Held (S : Type 0) : Type 0 where
   pub held : ℕ
   pub dead : Bool
 
-abbrev pub heldAfter : List ℕ → ℕ → ℕ
-heldAfter b filled = filled - stopFrom (take filled b) 0
+abbrev pub held_after : List ℕ → ℕ → ℕ
+held_after b filled = filled - stop_from (take filled b) 0
 
 -- with the records of the first `filled` bytes of a buffer taken, and the buffer with what they leave over at its front
-unfoldable pub heldOn : {S : Type 0} → (S → List ℕ → S) → Held S → List ℕ → ℕ → Held S
-heldOn step h b filled =
+unfoldable pub held_on : {S : Type 0} → (S → List ℕ → S) → Held S → List ℕ → ℕ → Held S
+held_on step h b filled =
     cond h.dead h
     (record {
-      state = takeAll step h.state (recordsOf (take filled b));
-      held = heldAfter b filled;
-      dead = deadRest (moved b (stopFrom (take filled b) 0) filled) (heldAfter b filled);
+      state = take_all step h.state (records_of (take filled b));
+      held = held_after b filled;
+      dead = dead_rest (moved b (stop_from (take filled b) 0) filled) (held_after b filled);
     })
 
-unfoldable pub bufferOn : {S : Type 0} → Held S → List ℕ → ℕ → List ℕ
-bufferOn h b filled = cond h.dead b (moved b (stopFrom (take filled b) 0) filled)
+unfoldable pub buffer_on : {S : Type 0} → Held S → List ℕ → ℕ → List ℕ
+buffer_on h b filled = cond h.dead b (moved b (stop_from (take filled b) 0) filled)
 
 -- the most refused records that a reading goes on from: 2^62
-abbrev pub mostRefused : ℕ
-mostRefused = 4611686018427387904
+abbrev pub most_refused : ℕ
+most_refused = 4611686018427387904
 
 -- numbers that stand for what 01's row 1 does not have: more refused records than that, and more bytes told than the buffer has
-abbrev pub manyRefused : ℕ
-manyRefused = 252
+abbrev pub many_refused : ℕ
+many_refused = 252
 
-abbrev pub moreTold : ℕ
-moreTold = 253
+abbrev pub more_told : ℕ
+more_told = 253
 
 -- what a reading in pieces is refused for, at its end and at a piece: "The smallest number that applies is the answer"
-abbrev pub endRules : Bool → ℕ → List Rule
-endRules fit refused = (1, not fit) ∷ (manyRefused, ltb mostRefused refused) ∷ []
+abbrev pub end_rules : Bool → ℕ → List Rule
+end_rules fit refused = (1, not fit) ∷ (many_refused, ltb most_refused refused) ∷ []
 
-abbrev pub endAnswer : Bool → ℕ → ℕ
-endAnswer fit refused = first (endRules fit refused)
+abbrev pub end_answer : Bool → ℕ → ℕ
+end_answer fit refused = first (end_rules fit refused)
 
-abbrev pub pieceRules : Bool → ℕ → ℕ → ℕ → List Rule
-pieceRules fit refused room filled = (1, not fit) ∷ (manyRefused, ltb mostRefused refused) ∷ (moreTold, ltb room filled) ∷ []
+abbrev pub piece_rules : Bool → ℕ → ℕ → ℕ → List Rule
+piece_rules fit refused room filled = (1, not fit) ∷ (many_refused, ltb most_refused refused) ∷ (more_told, ltb room filled) ∷ []
 
-abbrev pub pieceAnswer : Bool → ℕ → ℕ → ℕ → ℕ
-pieceAnswer fit refused room filled = first (pieceRules fit refused room filled)
+abbrev pub piece_answer : Bool → ℕ → ℕ → ℕ → ℕ
+piece_answer fit refused room filled = first (piece_rules fit refused room filled)

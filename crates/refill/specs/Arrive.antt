@@ -2,7 +2,7 @@
 -- them. Which pieces, the system decides.
 use Rattle.std.specs.Prelude.{ℕ, ◌*◌, ◌≤◌, List, length}
 use Rattle.wire.specs.Cut.{joined}
-use Rattle.records.specs.Pieces.{beginning, fedAll, Held}
+use Rattle.records.specs.Pieces.{beginning, fed_all, Held}
 use Rattle.records.proofs.HeldLaws.{Holding}
 
 -- the most bytes that a buffer has: those of `io::large_buffer`
@@ -10,10 +10,10 @@ abbrev pub room : ℕ
 room = 65536
 
 -- the most turns of a loop: more than any file has pieces, 2^40
-abbrev pub mostTurns : ℕ
-mostTurns = 1099511627776
+abbrev pub most_turns : ℕ
+most_turns = 1099511627776
 
 pub record Arrived {S : Type 0} (step : S → List ℕ → S) (st : S) (h : Held S) (b : List ℕ) (turns : ℕ) : Type 0 where
   pub pieces : List (List ℕ)
-  pub holds : Holding step h b (fedAll step (beginning st) pieces)
+  pub holds : Holding step h b (fed_all step (beginning st) pieces)
   pub few : length (joined pieces) ≤ turns * room

@@ -4,5 +4,5 @@ use Rattle.base.proofs.OneOutcome.{OneOutcome, alike}
 use Rattle.report.proofs.report_of.Kinds as report-of-kinds
 use Rattle.report.proofs.report_of.Reads as report-of
 
-pub report-of-one : OneOutcome report-of-kinds.ps report-of-kinds.r report-of.Post
-report-of-one κs a x y v w p q = (alike p q, refl)
+pub report_of_one : OneOutcome report-of-kinds.ps report-of-kinds.r report-of.Post
+report_of_one κs a x y v w p q = (alike p q, refl)

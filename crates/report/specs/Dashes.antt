@@ -7,21 +7,21 @@ use Rattle.index.specs.declared.Level.{Level}
 use Rattle.index.specs.declared.Index.{Index}
 use Rattle.index.specs.Index.{divided_by}
 use Rattle.index.specs.Answered.{Rounded}
-use Rattle.text.specs.Text.{numberText, twoText}
-use Rattle.report.specs.Report.{indexText}
+use Rattle.text.specs.Text.{number_text, two_text}
+use Rattle.report.specs.Report.{index_text}
 
 -- " -"
 abbrev pub dash : List ℕ
 dash = 32 ∷ 45 ∷ []
 
 -- " 26.33": a whole part, a point and two digits
-abbrev pub decimalText : Decimal → List ℕ
-decimalText d = 32 ∷ (numberText d.whole ++ (46 ∷ twoText d.digits))
+abbrev pub decimal_text : Decimal → List ℕ
+decimal_text d = 32 ∷ (number_text d.whole ++ (46 ∷ two_text d.digits))
 
 -- - stands exactly where 17 applies, "SAIFI or SAIDI with no customers, CAIDI with no customers interrupted", and for no other refusal; everywhere else
 -- the decimal of two digits that is nearest to 01's formula
 pub record Dashes (l : Ledger) (index : Index) (level : Level) (set : Set) : Type 0 where
-  pub exactly-17 : (indexText l index level set ≡ dash) ↔ (divided_by l index level set ≡ 0)
-  pub else-nearest :
+  pub exactly_17 : (index_text l index level set ≡ dash) ↔ (divided_by l index level set ≡ 0)
+  pub else_nearest :
       (divided_by l index level set ≡ 0 → ⊥) →
-      (d : Decimal) × (indexText l index level set ≡ decimalText d) × Rounded l index level set 2 d
+      (d : Decimal) × (index_text l index level set ≡ decimal_text d) × Rounded l index level set 2 d

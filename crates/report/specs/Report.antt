@@ -6,64 +6,64 @@ use Rattle.decimal.specs.declared.Shown.TheVariants.{Is, Refused}
 use Rattle.codes.specs.declared.Set.{Set}
 use Rattle.codes.specs.declared.Set.TheVariants.{All, Std, Unnamed}
 use Rattle.ledger.specs.declared.Ledger.{Ledger}
-use Rattle.ledger.specs.Sound.{soundLedger}
+use Rattle.ledger.specs.Sound.{sound_ledger}
 use Rattle.index.specs.declared.Level.{Level}
 use Rattle.index.specs.declared.Level.TheVariants.{NN, VN, VVN, Network}
 use Rattle.index.specs.declared.Index.{Index}
 use Rattle.index.specs.declared.Index.TheVariants.{Saifi, Saidi, Caidi}
-use Rattle.index.specs.Index.{shownIndex}
+use Rattle.index.specs.Index.{shown_index}
 use Rattle.text.specs.declared.Text.{Text}
-use Rattle.text.specs.Text.{text_of, pushedAll, numberText, twoText}
+use Rattle.text.specs.Text.{text_of, pushed_all, number_text, two_text}
 use Rattle.report.specs.declared.Report.{Report}
 
 -- a figure with two decimals, or "-"
-abbrev pub figureText : Shown → List ℕ
-figureText (Is d) = numberText d.whole ++ (46 ∷ twoText d.digits)
-figureText (Refused n) = 45 ∷ []
+abbrev pub figure_text : Shown → List ℕ
+figure_text (Is d) = number_text d.whole ++ (46 ∷ two_text d.digits)
+figure_text (Refused n) = 45 ∷ []
 
-abbrev pub levelWord : Level → List ℕ
-levelWord NN = 78 ∷ 78 ∷ []
-levelWord VN = 86 ∷ 78 ∷ []
-levelWord VVN = 86 ∷ 86 ∷ 78 ∷ []
-levelWord Network = 83 ∷ 89 ∷ 83 ∷ []
+abbrev pub level_word : Level → List ℕ
+level_word NN = 78 ∷ 78 ∷ []
+level_word VN = 86 ∷ 78 ∷ []
+level_word VVN = 86 ∷ 86 ∷ 78 ∷ []
+level_word Network = 83 ∷ 89 ∷ 83 ∷ []
 
-abbrev pub setWord : Set → List ℕ
-setWord All = 97 ∷ 108 ∷ 108 ∷ []
-setWord Std = 115 ∷ 116 ∷ 100 ∷ []
-setWord Unnamed = 115 ∷ 116 ∷ 100 ∷ []
+abbrev pub set_word : Set → List ℕ
+set_word All = 97 ∷ 108 ∷ 108 ∷ []
+set_word Std = 115 ∷ 116 ∷ 100 ∷ []
+set_word Unnamed = 115 ∷ 116 ∷ 100 ∷ []
 
 -- " SAIFI"
-abbrev pub indexText : Ledger → Index → Level → Set → List ℕ
-indexText l index level set = 32 ∷ figureText (shownIndex l index level set 2)
+abbrev pub index_text : Ledger → Index → Level → Set → List ℕ
+index_text l index level set = 32 ∷ figure_text (shown_index l index level set 2)
 
-abbrev pub withIndex : Text → Ledger → Index → Level → Set → Text
-withIndex t l index level set = pushedAll t (indexText l index level set)
+abbrev pub with_index : Text → Ledger → Index → Level → Set → Text
+with_index t l index level set = pushed_all t (index_text l index level set)
 
 -- "NN all 3.00 79.00 26.33"
-abbrev pub lineText : Ledger → Level → Set → List ℕ
-lineText l level set =
-    levelWord level ++ (32 ∷ setWord set) ++ indexText l Saifi level set ++ indexText l Saidi level set ++ indexText l Caidi level set ++ (10 ∷ [])
+abbrev pub line_text : Ledger → Level → Set → List ℕ
+line_text l level set =
+    level_word level ++ (32 ∷ set_word set) ++ index_text l Saifi level set ++ index_text l Saidi level set ++ index_text l Caidi level set ++ (10 ∷ [])
 
-abbrev pub yearText : Bool → ℕ → List ℕ
-yearText there year = cond there (numberText year) (45 ∷ [])
+abbrev pub year_text : Bool → ℕ → List ℕ
+year_text there year = cond there (number_text year) (45 ∷ [])
 
 -- "year 2009 events 3 short 0 refused 0"
-abbrev pub headText : Ledger → ℕ → List ℕ
-headText l refused =
-    (121 ∷ 101 ∷ 97 ∷ 114 ∷ 32 ∷ []) ++ yearText l.sheet.there l.sheet.year ++
-    (32 ∷ 101 ∷ 118 ∷ 101 ∷ 110 ∷ 116 ∷ 115 ∷ 32 ∷ []) ++ numberText l.events ++
-    (32 ∷ 115 ∷ 104 ∷ 111 ∷ 114 ∷ 116 ∷ 32 ∷ []) ++ numberText l.short ++
-    (32 ∷ 114 ∷ 101 ∷ 102 ∷ 117 ∷ 115 ∷ 101 ∷ 100 ∷ 32 ∷ []) ++ numberText refused ++ (10 ∷ [])
+abbrev pub head_text : Ledger → ℕ → List ℕ
+head_text l refused =
+    (121 ∷ 101 ∷ 97 ∷ 114 ∷ 32 ∷ []) ++ year_text l.sheet.there l.sheet.year ++
+    (32 ∷ 101 ∷ 118 ∷ 101 ∷ 110 ∷ 116 ∷ 115 ∷ 32 ∷ []) ++ number_text l.events ++
+    (32 ∷ 115 ∷ 104 ∷ 111 ∷ 114 ∷ 116 ∷ 32 ∷ []) ++ number_text l.short ++
+    (32 ∷ 114 ∷ 101 ∷ 102 ∷ 117 ∷ 115 ∷ 101 ∷ 100 ∷ 32 ∷ []) ++ number_text refused ++ (10 ∷ [])
 
-abbrev pub linesText : Ledger → List ℕ
-linesText l =
-    lineText l NN All ++ lineText l VN All ++ lineText l VVN All ++ lineText l Network All ++
-    lineText l NN Std ++ lineText l VN Std ++ lineText l VVN Std ++ lineText l Network Std
+abbrev pub lines_text : Ledger → List ℕ
+lines_text l =
+    line_text l NN All ++ line_text l VN All ++ line_text l VVN All ++ line_text l Network All ++
+    line_text l NN Std ++ line_text l VN Std ++ line_text l VVN Std ++ line_text l Network Std
 
-unfoldable pub reportText : Ledger → ℕ → List ℕ
-reportText l refused = headText l refused ++ cond l.sheet.there (linesText l) []
+unfoldable pub report_text : Ledger → ℕ → List ℕ
+report_text l refused = head_text l refused ++ cond l.sheet.there (lines_text l) []
 
 -- The report's text of an unsound ledger: 1, no text.
-unfoldable pub reportOf : Ledger → ℕ → Report
-reportOf l refused =
-    cond (soundLedger l) (record { answer = 0; text = text_of (reportText l refused) }) (record { answer = 1; text = text_of [] })
+unfoldable pub report_of : Ledger → ℕ → Report
+report_of l refused =
+    cond (sound_ledger l) (record { answer = 0; text = text_of (report_text l refused) }) (record { answer = 1; text = text_of [] })

@@ -1,7 +1,7 @@
 // The year report's text.
 ghost use Rattle.std.specs.Prelude.{◌≡◌};
-ghost use Rattle.text.specs.Text.{pushedAll};
-ghost use Rattle.report.specs.Report.{figureText, levelWord, setWord, lineText, headText, linesText, reportOf};
+ghost use Rattle.text.specs.Text.{pushed_all};
+ghost use Rattle.report.specs.Report.{figure_text, level_word, set_word, line_text, head_text, lines_text, report_of};
 
 use codes::Set;
 use decimal::Shown;
@@ -18,7 +18,7 @@ pub struct Report {
 
 // A figure with two decimals, or - where it is refused.
 fn with_figure(t: Text, s: Shown) -> Text
-    ensures { result ≡ pushedAll t (figureText s) }
+    ensures { result ≡ pushed_all t (figure_text s) }
 {
     match s {
         Shown::Is(d) => t.with_number(d.whole).with_byte(46).with_two(d.digits),
@@ -27,7 +27,7 @@ fn with_figure(t: Text, s: Shown) -> Text
 }
 
 fn with_level(t: Text, level: Level) -> Text
-    ensures { result ≡ pushedAll t (levelWord level) }
+    ensures { result ≡ pushed_all t (level_word level) }
 {
     match level {
         Level::NN => t.with_words(b"NN"),
@@ -38,7 +38,7 @@ fn with_level(t: Text, level: Level) -> Text
 }
 
 fn with_set(t: Text, set: Set) -> Text
-    ensures { result ≡ pushedAll t (setWord set) }
+    ensures { result ≡ pushed_all t (set_word set) }
 {
     match set {
         Set::All => t.with_words(b"all"),
@@ -49,7 +49,7 @@ fn with_set(t: Text, set: Set) -> Text
 
 // A space, and an index with two decimals.
 fn with_index(t: Text, ledger: Ledger, index: Index, level: Level, set: Set) -> Text
-    ensures { result ≡ Rattle.report.specs.Report.withIndex t ledger index level set }
+    ensures { result ≡ Rattle.report.specs.Report.with_index t ledger index level set }
 {
     with_figure(
         t.with_byte(32),
@@ -59,7 +59,7 @@ fn with_index(t: Text, ledger: Ledger, index: Index, level: Level, set: Set) -> 
 
 // One line: level, set, SAIFI, SAIDI, CAIDI.
 fn with_line(t: Text, ledger: Ledger, level: Level, set: Set) -> Text
-    ensures { result ≡ pushedAll t (lineText ledger level set) }
+    ensures { result ≡ pushed_all t (line_text ledger level set) }
 {
     let a = with_set(with_level(t, level).with_byte(32), set);
     let b = with_index(a, ledger, Index::Saifi, level, set);
@@ -69,7 +69,7 @@ fn with_line(t: Text, ledger: Ledger, level: Level, set: Set) -> Text
 
 // The first line: year, accepted events, short events, refused records.
 fn with_head(t: Text, ledger: Ledger, refused: u64) -> Text
-    ensures { result ≡ pushedAll t (headText ledger refused) }
+    ensures { result ≡ pushed_all t (head_text ledger refused) }
 {
     let sheet = ledger.sheet;
     let a = with_year(t.with_words(b"year "), sheet.there, sheet.year);
@@ -82,7 +82,7 @@ fn with_head(t: Text, ledger: Ledger, refused: u64) -> Text
 
 // The year, or - without a sheet.
 fn with_year(t: Text, there: bool, year: u16) -> Text
-    ensures { result ≡ pushedAll t (Rattle.report.specs.Report.yearText there year) }
+    ensures { result ≡ pushed_all t (Rattle.report.specs.Report.year_text there year) }
 {
     if there {
         return t.with_number(year as u64);
@@ -92,7 +92,7 @@ fn with_year(t: Text, there: bool, year: u16) -> Text
 
 // The eight lines of figures.
 fn with_lines(t: Text, ledger: Ledger) -> Text
-    ensures { result ≡ pushedAll t (linesText ledger) }
+    ensures { result ≡ pushed_all t (lines_text ledger) }
 {
     let a = with_line(
         with_line(t, ledger, Level::NN, Set::All),
@@ -122,7 +122,7 @@ fn with_lines(t: Text, ledger: Ledger) -> Text
 
 // The report of a ledger with so many refused records.
 pub fn report_of(ledger: Ledger, refused: u64) -> Report
-    ensures { result ≡ reportOf ledger refused }
+    ensures { result ≡ report_of ledger refused }
 {
     if !ledger.sound() {
         return Report {

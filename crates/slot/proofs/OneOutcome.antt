@@ -22,17 +22,17 @@ free_one κs a x y v w p q = (alike p q, refl)
 pub opened_one : OneOutcome opened-kinds.ps opened-kinds.r opened.Post
 opened_one κs a x y v w p q = (alike p q, refl)
 
-pub course-one : OneOutcome course-kinds.ps course-kinds.r course.Post
-course-one κs a x y v w p q = (alike p q, refl)
+pub course_one : OneOutcome course-kinds.ps course-kinds.r course.Post
+course_one κs a x y v w p q = (alike p q, refl)
 
-pub stepped-one : OneOutcome stepped-kinds.ps stepped-kinds.r stepped.Post
-stepped-one κs a x y v w p q = (alike p q, refl)
+pub stepped_one : OneOutcome stepped-kinds.ps stepped-kinds.r stepped.Post
+stepped_one κs a x y v w p q = (alike p q, refl)
 
-pub is-free-one : OneOutcome is-free-kinds.ps is-free-kinds.r is_free.Post
-is-free-one κs a x y v w p q = (alike p q, refl)
+pub is_free_one : OneOutcome is-free-kinds.ps is-free-kinds.r is_free.Post
+is_free_one κs a x y v w p q = (alike p q, refl)
 
-pub open-sound-one : OneOutcome open-sound-kinds.ps open-sound-kinds.r open-sound.Post
-open-sound-one κs a x y v w p q = (alike p q, refl)
+pub open_sound_one : OneOutcome open-sound-kinds.ps open-sound-kinds.r open-sound.Post
+open_sound_one κs a x y v w p q = (alike p q, refl)
 
-pub sound-one : OneOutcome sound-kinds.ps sound-kinds.r sound.Post
-sound-one κs a x y v w p q = (alike p q, refl)
+pub sound_one : OneOutcome sound-kinds.ps sound-kinds.r sound.Post
+sound_one κs a x y v w p q = (alike p q, refl)

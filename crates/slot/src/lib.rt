@@ -1,8 +1,8 @@
 // One slot of the desk: an open outage with what its steps have come to, or a free slot, which holds zeros only.
 ghost use Rattle.std.specs.Prelude.{◌≡◌, true, ◌-◌, ◌≤◌};
 ghost use Rattle.annex.specs.Inside.{Ready};
-ghost use Rattle.slot.specs.Slot.{freeSlot, openedBy, courseIn, steppedBy};
-ghost use Rattle.slot.specs.Sound.{noCustomers, noHalves, isFree, levelWithin, openSound, slotSound};
+ghost use Rattle.slot.specs.Slot.{free_slot, opened_by, course_in, stepped_by};
+ghost use Rattle.slot.specs.Sound.{no_customers, no_halves, is_free, level_within, open_sound, slot_sound};
 
 use annex::{Course, Customers, Figures, HalfMinutes, Step};
 use fields::Head;
@@ -19,14 +19,14 @@ pub struct Slot {
 
 // Whether all customers, or all half minutes, are zero.
 fn no_customers(f: Figures) -> bool
-    ensures { result ≡ noCustomers f }
+    ensures { result ≡ no_customers f }
 {
     let c = f.customers;
     (c[0].0 == 0) & (c[1].0 == 0) & (c[2].0 == 0)
 }
 
 fn no_halves(f: Figures) -> bool
-    ensures { result ≡ noHalves f }
+    ensures { result ≡ no_halves f }
 {
     let h = f.halves;
     (h[0].0 == 0) & (h[1].0 == 0) & (h[2].0 == 0)
@@ -34,7 +34,7 @@ fn no_halves(f: Figures) -> bool
 
 // Whether a level's largest count and half minutes are within what so many minutes allow.
 fn level_within(customers: Customers, halves: HalfMinutes, minutes: u32) -> bool
-    ensures { result ≡ levelWithin customers.0 halves.0 minutes }
+    ensures { result ≡ level_within customers.0 halves.0 minutes }
 {
     if annex::MOST_OFF < customers.0 {
         return false;
@@ -45,7 +45,7 @@ fn level_within(customers: Customers, halves: HalfMinutes, minutes: u32) -> bool
 impl Slot {
     // Zeros only.
     pub fn free() -> Slot
-        ensures { result ≡ freeSlot }
+        ensures { result ≡ free_slot }
     {
         Slot {
             head: Head {
@@ -63,7 +63,7 @@ impl Slot {
 
     // An outage that begins, with no step taken.
     pub fn opened(head: Head) -> Slot
-        ensures { result ≡ openedBy head }
+        ensures { result ≡ opened_by head }
     {
         Slot {
             head,
@@ -75,7 +75,7 @@ impl Slot {
 
     // What the outage's steps have come to.
     pub fn course(self) -> Course
-        ensures { result ≡ courseIn self }
+        ensures { result ≡ course_in self }
     {
         let figures = self.figures;
         Course {
@@ -86,8 +86,8 @@ impl Slot {
 
     // The outage with one step more.
     pub fn stepped(self, step: Step) -> Slot
-        requires { Ready (courseIn self) step × (self.steps ≤ 64) }
-        ensures { result ≡ steppedBy self step }
+        requires { Ready (course_in self) step × (self.steps ≤ 64) }
+        ensures { result ≡ stepped_by self step }
     {
         let head = self.head;
         let course = self.course().with(step);
@@ -102,7 +102,7 @@ impl Slot {
 
     // Whether the slot holds zeros only. The figures are looked at only where all else is zero.
     pub fn is_free(self) -> bool
-        ensures { result ≡ isFree self }
+        ensures { result ≡ is_free self }
     {
         let head = self.head;
         let f = self.figures;
@@ -124,7 +124,7 @@ impl Slot {
 
     // Whether the slot is sound as an open one. The first test that fails decides.
     pub fn open_sound(self) -> bool
-        ensures { result ≡ openSound self }
+        ensures { result ≡ open_sound self }
     {
         let head = self.head;
         let f = self.figures;
@@ -158,7 +158,7 @@ impl Slot {
 
     // Whether the slot is sound. Of a free one nothing more is asked.
     pub fn sound(self) -> bool
-        ensures { result ≡ slotSound self }
+        ensures { result ≡ slot_sound self }
     {
         if self.is_free() {
             return true;

@@ -8,84 +8,84 @@ use borrow.Author.Tests.{ne_eqb}
 use Rattle.decimal.specs.Decimal.{decimally}
 use Rattle.index.specs.Index.{exactly}
 use Rattle.slot.specs.declared.Slot.{Slot}
-use Rattle.c_words.specs.Words.{wordsFit}
-use Rattle.c_words.specs.Header.{headerWord, headed, answeredInto}
-use Rattle.c_words.proofs.LentLaws.{refused-is}
-use Rattle.c_codes.specs.Named.{allNamed}
-use Rattle.temelyak.specs.Calls.{isPair, indexAsked, decimalAsked, emptyAnswer, emptyWords, takeAnswer, takeWords, takeMap, bookAnswer, bookWords, bookMap, bookOut, serveAnswer, serveWords, serveMap, serveDesk, indexAnswer, indexOut, decimalAnswer, decimalOut}
+use Rattle.c_words.specs.Words.{words_fit}
+use Rattle.c_words.specs.Header.{header_word, headed, answered_into}
+use Rattle.c_words.proofs.LentLaws.{refused_is}
+use Rattle.c_codes.specs.Named.{all_named}
+use Rattle.temelyak.specs.Calls.{is_pair, index_asked, decimal_asked, empty_answer, empty_words, take_answer, take_words, take_map, book_answer, book_words, book_map, book_out, serve_answer, serve_words, serve_map, serve_desk, index_answer, index_out, decimal_answer, decimal_out}
 use Rattle.temelyak.specs.Refused.{LentSame}
 
-pub empty-refused-same : (header : ℕ) (ws : List ℕ) → (emptyAnswer header ws ≡ 0 → ⊥) → emptyWords header ws ≡ ws
-unfolding emptyWords
-empty-refused-same header ws z = refused-is (emptyAnswer header ws) _ ws z
+pub empty_refused_same : (header : ℕ) (ws : List ℕ) → (empty_answer header ws ≡ 0 → ⊥) → empty_words header ws ≡ ws
+unfolding empty_words
+empty_refused_same header ws z = refused_is (empty_answer header ws) _ ws z
 
-pub take-refused-same : (header : ℕ) (ws m s : List ℕ) → (takeAnswer header ws m s ≡ 0 → ⊥) → (takeWords header ws m s ≡ ws) × (takeMap header ws m s ≡ m)
-unfolding takeWords takeMap
-take-refused-same header ws m s z = (refused-is (takeAnswer header ws m s) _ ws z, refused-is (takeAnswer header ws m s) _ m z)
+pub take_refused_same : (header : ℕ) (ws m s : List ℕ) → (take_answer header ws m s ≡ 0 → ⊥) → (take_words header ws m s ≡ ws) × (take_map header ws m s ≡ m)
+unfolding take_words take_map
+take_refused_same header ws m s z = (refused_is (take_answer header ws m s) _ ws z, refused_is (take_answer header ws m s) _ m z)
 
-pub book-refused-same : (header : ℕ) (ws m b out : List ℕ) → (bookAnswer header ws m b out ≡ 0 → ⊥) → (bookWords header ws m b out ≡ ws) × (bookMap header ws m b out ≡ m) × (bookOut header ws m b out ≡ out)
-unfolding bookWords bookMap bookOut
-book-refused-same header ws m b out z =
-    let n = bookAnswer header ws m b out in
-    (refused-is n _ ws z, refused-is n _ m z, refused-is n _ out z)
+pub book_refused_same : (header : ℕ) (ws m b out : List ℕ) → (book_answer header ws m b out ≡ 0 → ⊥) → (book_words header ws m b out ≡ ws) × (book_map header ws m b out ≡ m) × (book_out header ws m b out ≡ out)
+unfolding book_words book_map book_out
+book_refused_same header ws m b out z =
+    let n = book_answer header ws m b out in
+    (refused_is n _ ws z, refused_is n _ m z, refused_is n _ out z)
 
-pub serve-refused-same : (header : ℕ) (ws m : List ℕ) (d : List Slot) (s : List ℕ) → (serveAnswer header ws m d s ≡ 0 → ⊥) → (serveWords header ws m d s ≡ ws) × (serveMap header ws m d s ≡ m) × (serveDesk header ws m d s ≡ d)
-unfolding serveWords serveMap serveDesk
-serve-refused-same header ws m d s z =
-    let n = serveAnswer header ws m d s in
-    (refused-is n _ ws z, refused-is n _ m z, refused-is n _ d z)
+pub serve_refused_same : (header : ℕ) (ws m : List ℕ) (d : List Slot) (s : List ℕ) → (serve_answer header ws m d s ≡ 0 → ⊥) → (serve_words header ws m d s ≡ ws) × (serve_map header ws m d s ≡ m) × (serve_desk header ws m d s ≡ d)
+unfolding serve_words serve_map serve_desk
+serve_refused_same header ws m d s z =
+    let n = serve_answer header ws m d s in
+    (refused_is n _ ws z, refused_is n _ m z, refused_is n _ d z)
 
-pub index-refused-same : (header : ℕ) (ws : List ℕ) (index level set : ℕ) (out : List ℕ) → (indexAnswer header ws index level set out ≡ 0 → ⊥) → indexOut header ws index level set out ≡ out
-unfolding indexOut
-index-refused-same header ws index level set out z = refused-is (indexAnswer header ws index level set out) _ out z
+pub index_refused_same : (header : ℕ) (ws : List ℕ) (index level set : ℕ) (out : List ℕ) → (index_answer header ws index level set out ≡ 0 → ⊥) → index_out header ws index level set out ≡ out
+unfolding index_out
+index_refused_same header ws index level set out z = refused_is (index_answer header ws index level set out) _ out z
 
-pub decimal-refused-same : (header : ℕ) (ws : List ℕ) (index level set digits : ℕ) (out : List ℕ) → (decimalAnswer header ws index level set digits out ≡ 0 → ⊥) → decimalOut header ws index level set digits out ≡ out
-unfolding decimalOut
-decimal-refused-same header ws index level set digits out z = refused-is (decimalAnswer header ws index level set digits out) _ out z
+pub decimal_refused_same : (header : ℕ) (ws : List ℕ) (index level set digits : ℕ) (out : List ℕ) → (decimal_answer header ws index level set digits out ≡ 0 → ⊥) → decimal_out header ws index level set digits out ≡ out
+unfolding decimal_out
+decimal_refused_same header ws index level set digits out z = refused_is (decimal_answer header ws index level set digits out) _ out z
 
 -- of every call
 pub lent_same : LentSame
 lent_same =
     record {
-      empty = empty-refused-same;
-      take = take-refused-same;
-      take-book = book-refused-same;
-      serve = serve-refused-same;
-      index = index-refused-same;
-      decimal = decimal-refused-same;
+      empty = empty_refused_same;
+      take = take_refused_same;
+      take_book = book_refused_same;
+      serve = serve_refused_same;
+      index = index_refused_same;
+      decimal = decimal_refused_same;
     }
 
 -- ---- another header
 
-other-header : (header n : ℕ) → (header ≡ headerWord → ⊥) → headed header n ≡ 254
-other-header header n z = ap (λ t. cond t n 254) (ne_eqb header headerWord z)
+other_header : (header n : ℕ) → (header ≡ header_word → ⊥) → headed header n ≡ 254
+other_header header n z = ap (λ t. cond t n 254) (ne_eqb header header_word z)
 
-module _ (header : ℕ) (z : header ≡ headerWord → ⊥) where
-  pub empty-other-header : (ws : List ℕ) → emptyAnswer header ws ≡ 254
-  unfolding emptyAnswer
-  empty-other-header ws = other-header header _ z
+module _ (header : ℕ) (z : header ≡ header_word → ⊥) where
+  pub empty_other_header : (ws : List ℕ) → empty_answer header ws ≡ 254
+  unfolding empty_answer
+  empty_other_header ws = other_header header _ z
 
-  pub take-other-header : (ws m s : List ℕ) → takeAnswer header ws m s ≡ 254
-  unfolding takeAnswer
-  take-other-header ws m s = other-header header _ z
+  pub take_other_header : (ws m s : List ℕ) → take_answer header ws m s ≡ 254
+  unfolding take_answer
+  take_other_header ws m s = other_header header _ z
 
-  pub book-other-header : (ws m b out : List ℕ) → bookAnswer header ws m b out ≡ 254
-  unfolding bookAnswer
-  book-other-header ws m b out = other-header header _ z
+  pub book_other_header : (ws m b out : List ℕ) → book_answer header ws m b out ≡ 254
+  unfolding book_answer
+  book_other_header ws m b out = other_header header _ z
 
-  pub serve-other-header : (ws m : List ℕ) (d : List Slot) (s : List ℕ) → serveAnswer header ws m d s ≡ 254
-  unfolding serveAnswer
-  serve-other-header ws m d s = other-header header _ z
+  pub serve_other_header : (ws m : List ℕ) (d : List Slot) (s : List ℕ) → serve_answer header ws m d s ≡ 254
+  unfolding serve_answer
+  serve_other_header ws m d s = other_header header _ z
 
   -- where the codes name an index, a level and a set
-  pub index-other-header : (ws : List ℕ) (index level set : ℕ) (out : List ℕ) → allNamed index level set ≡ true → indexAnswer header ws index level set out ≡ 254
-  unfolding indexAnswer
-  index-other-header ws index level set out e =
-      let n = get_or (exactly (indexAsked ws index level set)) 0 0 in
-      ap (λ t. cond t (answeredInto header (isPair out) (wordsFit ws) n) 255) e ∙ other-header header _ z
+  pub index_other_header : (ws : List ℕ) (index level set : ℕ) (out : List ℕ) → all_named index level set ≡ true → index_answer header ws index level set out ≡ 254
+  unfolding index_answer
+  index_other_header ws index level set out e =
+      let n = get_or (exactly (index_asked ws index level set)) 0 0 in
+      ap (λ t. cond t (answered_into header (is_pair out) (words_fit ws) n) 255) e ∙ other_header header _ z
 
-  pub decimal-other-header : (ws : List ℕ) (index level set digits : ℕ) (out : List ℕ) → allNamed index level set ≡ true → decimalAnswer header ws index level set digits out ≡ 254
-  unfolding decimalAnswer
-  decimal-other-header ws index level set digits out e =
-      let n = get_or (decimally (decimalAsked ws index level set digits)) 0 0 in
-      ap (λ t. cond t (answeredInto header (isPair out) (wordsFit ws) n) 255) e ∙ other-header header _ z
+  pub decimal_other_header : (ws : List ℕ) (index level set digits : ℕ) (out : List ℕ) → all_named index level set ≡ true → decimal_answer header ws index level set digits out ≡ 254
+  unfolding decimal_answer
+  decimal_other_header ws index level set digits out e =
+      let n = get_or (decimally (decimal_asked ws index level set digits)) 0 0 in
+      ap (λ t. cond t (answered_into header (is_pair out) (words_fit ws) n) 255) e ∙ other_header header _ z

@@ -8,11 +8,11 @@ use Rattle.decimal.specs.declared.Shown.{Shown}
 use Rattle.decimal.specs.Decimal.{decimally}
 use Rattle.index.specs.declared.Answer.{Answer}
 use Rattle.index.specs.Index.{exactly}
-use Rattle.index.proofs.IndexLaws.{unnamed-means-std, shown-unnamed}
-use Rattle.c_words.specs.Words.{wordsFit, ledgerIn}
-use Rattle.c_words.specs.Header.{answeredInto, ifAccepted}
-use Rattle.c_codes.specs.Named.{indexNamed, levelNamed, allNamed}
-use Rattle.temelyak.specs.Calls.{isPair, indexAsked, indexAnswer, indexOut, decimalAsked, decimalAnswer, decimalOut}
+use Rattle.index.proofs.IndexLaws.{unnamed_means_std, shown_unnamed}
+use Rattle.c_words.specs.Words.{words_fit, ledger_in}
+use Rattle.c_words.specs.Header.{answered_into, if_accepted}
+use Rattle.c_codes.specs.Named.{index_named, level_named, all_named}
+use Rattle.temelyak.specs.Calls.{is_pair, index_asked, index_answer, index_out, decimal_asked, decimal_answer, decimal_out}
 
 -- the two codes of the header
 abbrev unnamed : ℕ
@@ -24,26 +24,26 @@ std = 2
 module _ (header : ℕ) (ws : List ℕ) (index level : ℕ) (out : List ℕ) where
   -- what numbers come to at a call whose codes are named
   abbrev answer : List ℕ → ℕ
-  answer ns = cond (allNamed index level std) (answeredInto header (isPair out) (wordsFit ws) (get_or ns 0 0)) 255
+  answer ns = cond (all_named index level std) (answered_into header (is_pair out) (words_fit ws) (get_or ns 0 0)) 255
 
   abbrev output : List ℕ → List ℕ
-  output ns = ifAccepted (answer ns) (drop 1 ns) out
+  output ns = if_accepted (answer ns) (drop 1 ns) out
 
-  same_index : indexAsked ws index level unnamed ≡ indexAsked ws index level std
-  same_index = unnamed-means-std (ledgerIn ws) (indexNamed index) (levelNamed level)
+  same_index : index_asked ws index level unnamed ≡ index_asked ws index level std
+  same_index = unnamed_means_std (ledger_in ws) (index_named index) (level_named level)
 
-  pub index-without-set :
-      (indexAnswer header ws index level unnamed out ≡ indexAnswer header ws index level std out) ×
-      (indexOut header ws index level unnamed out ≡ indexOut header ws index level std out)
-  unfolding indexAnswer indexOut
-  index-without-set = (ap (λ (a : Answer). answer (exactly a)) same_index, ap (λ (a : Answer). output (exactly a)) same_index)
+  pub index_without_set :
+      (index_answer header ws index level unnamed out ≡ index_answer header ws index level std out) ×
+      (index_out header ws index level unnamed out ≡ index_out header ws index level std out)
+  unfolding index_answer index_out
+  index_without_set = (ap (λ (a : Answer). answer (exactly a)) same_index, ap (λ (a : Answer). output (exactly a)) same_index)
 
-  same-decimal : (digits : ℕ) → decimalAsked ws index level unnamed digits ≡ decimalAsked ws index level std digits
-  same-decimal digits = shown-unnamed (ledgerIn ws) (indexNamed index) (levelNamed level) digits
+  same_decimal : (digits : ℕ) → decimal_asked ws index level unnamed digits ≡ decimal_asked ws index level std digits
+  same_decimal digits = shown_unnamed (ledger_in ws) (index_named index) (level_named level) digits
 
-  pub decimal-without-set : (digits : ℕ) →
-      (decimalAnswer header ws index level unnamed digits out ≡ decimalAnswer header ws index level std digits out) ×
-      (decimalOut header ws index level unnamed digits out ≡ decimalOut header ws index level std digits out)
-  unfolding decimalAnswer decimalOut
-  decimal-without-set digits =
-      (ap (λ (s : Shown). answer (decimally s)) (same-decimal digits), ap (λ (s : Shown). output (decimally s)) (same-decimal digits))
+  pub decimal_without_set : (digits : ℕ) →
+      (decimal_answer header ws index level unnamed digits out ≡ decimal_answer header ws index level std digits out) ×
+      (decimal_out header ws index level unnamed digits out ≡ decimal_out header ws index level std digits out)
+  unfolding decimal_answer decimal_out
+  decimal_without_set digits =
+      (ap (λ (s : Shown). answer (decimally s)) (same_decimal digits), ap (λ (s : Shown). output (decimally s)) (same_decimal digits))

@@ -1,109 +1,109 @@
 -- What each call of include/temelyak.h answers, and what it leaves in all that was lent, by the call behind it.
 use Rattle.std.specs.Prelude.{ℕ, List, [], ◌∷◌, Bool, true, cond, ◌≡◌, length, get_or, drop, eqb}
-use Rattle.used_numbers.specs.Marks.{mapSize}
+use Rattle.used_numbers.specs.Marks.{map_size}
 use Rattle.decimal.specs.declared.Shown.{Shown}
 use Rattle.decimal.specs.Decimal.{decimally}
 use Rattle.ledger.specs.declared.Ledger.{Ledger}
-use Rattle.ledger.specs.Ledger.{emptyLedger}
-use Rattle.ledger.specs.Take.{answer_of, ledgerAfter, mapAfter}
+use Rattle.ledger.specs.Ledger.{empty_ledger}
+use Rattle.ledger.specs.Take.{answer_of, ledger_after, map_after}
 use Rattle.book.specs.declared.Read.{Read}
-use Rattle.book.specs.Book.{read_of, mapRead}
+use Rattle.book.specs.Book.{read_of, map_read}
 use Rattle.index.specs.declared.Answer.{Answer}
-use Rattle.index.specs.Index.{indexOf, exactly, shownIndex}
+use Rattle.index.specs.Index.{index_of, exactly, shown_index}
 use Rattle.slot.specs.declared.Slot.{Slot}
-use Rattle.desk_scan.specs.Desk.{slotCount}
-use Rattle.desk_rules.specs.Serve.{messageAnswer, ledgerServed, mapServed, deskServed}
-use Rattle.c_words.specs.Words.{ledgerWords, wordsFit, ledgerIn, flagOf, words_of}
-use Rattle.c_words.specs.Header.{version, slotBytes, answered, answeredInto, ifAccepted}
-use Rattle.c_codes.specs.Named.{indexNamed, levelNamed, setNamed, allNamed}
+use Rattle.desk_scan.specs.Desk.{slot_count}
+use Rattle.desk_rules.specs.Serve.{message_answer, ledger_served, map_served, desk_served}
+use Rattle.c_words.specs.Words.{ledger_words, words_fit, ledger_in, flag_of, words_of}
+use Rattle.c_words.specs.Header.{version, slot_bytes, answered, answered_into, if_accepted}
+use Rattle.c_codes.specs.Named.{index_named, level_named, set_named, all_named}
 
 -- an output of two words
-abbrev pub isPair : List ℕ → Bool
-isPair out = eqb (length out) 2
+abbrev pub is_pair : List ℕ → Bool
+is_pair out = eqb (length out) 2
 
 -- ---- temelyak_empty: words ws, an output only, so that any content is written over
 
-unfoldable pub emptyAnswer : ℕ → List ℕ → ℕ
-emptyAnswer header ws = answeredInto header (eqb (length ws) ledgerWords) true 0
+unfoldable pub empty_answer : ℕ → List ℕ → ℕ
+empty_answer header ws = answered_into header (eqb (length ws) ledger_words) true 0
 
-unfoldable pub emptyWords : ℕ → List ℕ → List ℕ
-emptyWords header ws = ifAccepted (emptyAnswer header ws) (words_of emptyLedger) ws
+unfoldable pub empty_words : ℕ → List ℕ → List ℕ
+empty_words header ws = if_accepted (empty_answer header ws) (words_of empty_ledger) ws
 
 -- ---- temelyak_take: words ws, map m, record s
 
-unfoldable pub takeAnswer : ℕ → List ℕ → List ℕ → List ℕ → ℕ
-takeAnswer header ws m s = answered header (wordsFit ws) (answer_of (ledgerIn ws) m s)
+unfoldable pub take_answer : ℕ → List ℕ → List ℕ → List ℕ → ℕ
+take_answer header ws m s = answered header (words_fit ws) (answer_of (ledger_in ws) m s)
 
-unfoldable pub takeWords : ℕ → List ℕ → List ℕ → List ℕ → List ℕ
-takeWords header ws m s = ifAccepted (takeAnswer header ws m s) (words_of (ledgerAfter (ledgerIn ws) m s)) ws
+unfoldable pub take_words : ℕ → List ℕ → List ℕ → List ℕ → List ℕ
+take_words header ws m s = if_accepted (take_answer header ws m s) (words_of (ledger_after (ledger_in ws) m s)) ws
 
-unfoldable pub takeMap : ℕ → List ℕ → List ℕ → List ℕ → List ℕ
-takeMap header ws m s = ifAccepted (takeAnswer header ws m s) (mapAfter (ledgerIn ws) m s) m
+unfoldable pub take_map : ℕ → List ℕ → List ℕ → List ℕ → List ℕ
+take_map header ws m s = if_accepted (take_answer header ws m s) (map_after (ledger_in ws) m s) m
 
 -- ---- temelyak_take_book: words ws, map m, book b, output out
 
-abbrev pub bookRead : List ℕ → List ℕ → List ℕ → Read
-bookRead ws m b = read_of (ledgerIn ws) m b
+abbrev pub book_read : List ℕ → List ℕ → List ℕ → Read
+book_read ws m b = read_of (ledger_in ws) m b
 
-unfoldable pub bookAnswer : ℕ → List ℕ → List ℕ → List ℕ → List ℕ → ℕ
-bookAnswer header ws m b out = answeredInto header (isPair out) (wordsFit ws) (bookRead ws m b).answer
+unfoldable pub book_answer : ℕ → List ℕ → List ℕ → List ℕ → List ℕ → ℕ
+book_answer header ws m b out = answered_into header (is_pair out) (words_fit ws) (book_read ws m b).answer
 
-unfoldable pub bookWords : ℕ → List ℕ → List ℕ → List ℕ → List ℕ → List ℕ
-bookWords header ws m b out = ifAccepted (bookAnswer header ws m b out) (words_of (bookRead ws m b).ledger) ws
+unfoldable pub book_words : ℕ → List ℕ → List ℕ → List ℕ → List ℕ → List ℕ
+book_words header ws m b out = if_accepted (book_answer header ws m b out) (words_of (book_read ws m b).ledger) ws
 
-unfoldable pub bookMap : ℕ → List ℕ → List ℕ → List ℕ → List ℕ → List ℕ
-bookMap header ws m b out = ifAccepted (bookAnswer header ws m b out) (mapRead (ledgerIn ws) m b) m
+unfoldable pub book_map : ℕ → List ℕ → List ℕ → List ℕ → List ℕ → List ℕ
+book_map header ws m b out = if_accepted (book_answer header ws m b out) (map_read (ledger_in ws) m b) m
 
 -- the refused records, and 1 where a broken length ended the book
-unfoldable pub bookOut : ℕ → List ℕ → List ℕ → List ℕ → List ℕ → List ℕ
-bookOut header ws m b out = ifAccepted (bookAnswer header ws m b out) ((bookRead ws m b).refused ∷ flagOf (bookRead ws m b).broken ∷ []) out
+unfoldable pub book_out : ℕ → List ℕ → List ℕ → List ℕ → List ℕ → List ℕ
+book_out header ws m b out = if_accepted (book_answer header ws m b out) ((book_read ws m b).refused ∷ flag_of (book_read ws m b).broken ∷ []) out
 
 -- ---- temelyak_serve: words ws, map m, desk d, message s
 
-unfoldable pub serveAnswer : ℕ → List ℕ → List ℕ → List Slot → List ℕ → ℕ
-serveAnswer header ws m d s = answered header (wordsFit ws) (messageAnswer (ledgerIn ws) m d s)
+unfoldable pub serve_answer : ℕ → List ℕ → List ℕ → List Slot → List ℕ → ℕ
+serve_answer header ws m d s = answered header (words_fit ws) (message_answer (ledger_in ws) m d s)
 
-unfoldable pub serveWords : ℕ → List ℕ → List ℕ → List Slot → List ℕ → List ℕ
-serveWords header ws m d s = ifAccepted (serveAnswer header ws m d s) (words_of (ledgerServed (ledgerIn ws) m d s)) ws
+unfoldable pub serve_words : ℕ → List ℕ → List ℕ → List Slot → List ℕ → List ℕ
+serve_words header ws m d s = if_accepted (serve_answer header ws m d s) (words_of (ledger_served (ledger_in ws) m d s)) ws
 
-unfoldable pub serveMap : ℕ → List ℕ → List ℕ → List Slot → List ℕ → List ℕ
-serveMap header ws m d s = ifAccepted (serveAnswer header ws m d s) (mapServed (ledgerIn ws) m d s) m
+unfoldable pub serve_map : ℕ → List ℕ → List ℕ → List Slot → List ℕ → List ℕ
+serve_map header ws m d s = if_accepted (serve_answer header ws m d s) (map_served (ledger_in ws) m d s) m
 
-unfoldable pub serveDesk : ℕ → List ℕ → List ℕ → List Slot → List ℕ → List Slot
-serveDesk header ws m d s = ifAccepted (serveAnswer header ws m d s) (deskServed (ledgerIn ws) m d s) d
+unfoldable pub serve_desk : ℕ → List ℕ → List ℕ → List Slot → List ℕ → List Slot
+serve_desk header ws m d s = if_accepted (serve_answer header ws m d s) (desk_served (ledger_in ws) m d s) d
 
 -- ---- temelyak_index and temelyak_decimal: words ws, output out; 255 for a code that names none comes before all else
 
-abbrev pub indexAsked : List ℕ → ℕ → ℕ → ℕ → Answer
-indexAsked ws index level set = indexOf (ledgerIn ws) (indexNamed index) (levelNamed level) (setNamed set)
+abbrev pub index_asked : List ℕ → ℕ → ℕ → ℕ → Answer
+index_asked ws index level set = index_of (ledger_in ws) (index_named index) (level_named level) (set_named set)
 
-unfoldable pub indexAnswer : ℕ → List ℕ → ℕ → ℕ → ℕ → List ℕ → ℕ
-indexAnswer header ws index level set out =
-    cond (allNamed index level set) (answeredInto header (isPair out) (wordsFit ws) (get_or (exactly (indexAsked ws index level set)) 0 0)) 255
+unfoldable pub index_answer : ℕ → List ℕ → ℕ → ℕ → ℕ → List ℕ → ℕ
+index_answer header ws index level set out =
+    cond (all_named index level set) (answered_into header (is_pair out) (words_fit ws) (get_or (exactly (index_asked ws index level set)) 0 0)) 255
 
 -- top and bottom
-unfoldable pub indexOut : ℕ → List ℕ → ℕ → ℕ → ℕ → List ℕ → List ℕ
-indexOut header ws index level set out = ifAccepted (indexAnswer header ws index level set out) (drop 1 (exactly (indexAsked ws index level set))) out
+unfoldable pub index_out : ℕ → List ℕ → ℕ → ℕ → ℕ → List ℕ → List ℕ
+index_out header ws index level set out = if_accepted (index_answer header ws index level set out) (drop 1 (exactly (index_asked ws index level set))) out
 
-abbrev pub decimalAsked : List ℕ → ℕ → ℕ → ℕ → ℕ → Shown
-decimalAsked ws index level set digits = shownIndex (ledgerIn ws) (indexNamed index) (levelNamed level) (setNamed set) digits
+abbrev pub decimal_asked : List ℕ → ℕ → ℕ → ℕ → ℕ → Shown
+decimal_asked ws index level set digits = shown_index (ledger_in ws) (index_named index) (level_named level) (set_named set) digits
 
-unfoldable pub decimalAnswer : ℕ → List ℕ → ℕ → ℕ → ℕ → ℕ → List ℕ → ℕ
-decimalAnswer header ws index level set digits out =
-    cond (allNamed index level set) (answeredInto header (isPair out) (wordsFit ws) (get_or (decimally (decimalAsked ws index level set digits)) 0 0)) 255
+unfoldable pub decimal_answer : ℕ → List ℕ → ℕ → ℕ → ℕ → ℕ → List ℕ → ℕ
+decimal_answer header ws index level set digits out =
+    cond (all_named index level set) (answered_into header (is_pair out) (words_fit ws) (get_or (decimally (decimal_asked ws index level set digits)) 0 0)) 255
 
 -- the whole part and the digits
-unfoldable pub decimalOut : ℕ → List ℕ → ℕ → ℕ → ℕ → ℕ → List ℕ → List ℕ
-decimalOut header ws index level set digits out =
-    ifAccepted (decimalAnswer header ws index level set digits out) (drop 1 (decimally (decimalAsked ws index level set digits))) out
+unfoldable pub decimal_out : ℕ → List ℕ → ℕ → ℕ → ℕ → ℕ → List ℕ → List ℕ
+decimal_out header ws index level set digits out =
+    if_accepted (decimal_answer header ws index level set digits out) (drop 1 (decimally (decimal_asked ws index level set digits))) out
 
 -- ---- temelyak_built
 
-abbrev pub builtOf : ℕ → ℕ
-builtOf which = get_or (version ∷ ledgerWords ∷ slotBytes ∷ mapSize ∷ slotCount ∷ []) which 0
+abbrev pub built_of : ℕ → ℕ
+built_of which = get_or (version ∷ ledger_words ∷ slot_bytes ∷ map_size ∷ slot_count ∷ []) which 0
 
 -- ---- the words that an accepted call leaves
 
 -- they hold a ledger, and it is this one
 abbrev pub Holds : List ℕ → Ledger → Type 0
-Holds ws l = (wordsFit ws ≡ true) × (ledgerIn ws ≡ l)
+Holds ws l = (words_fit ws ≡ true) × (ledger_in ws ≡ l)

@@ -2,5 +2,5 @@
 use Rattle.ledger.specs.declared.Taken.{Taken}
 use Rattle.desk_rules.specs.declared.Served.{Served}
 
-abbrev pub handedBack : Served → Taken
-handedBack x = record { answer = x.answer; ledger = x.ledger }
+abbrev pub handed_back : Served → Taken
+handed_back x = record { answer = x.answer; ledger = x.ledger }

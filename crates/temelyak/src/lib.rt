@@ -1,8 +1,8 @@
 // The library for C (include/temelyak.h): a ledger is lent as words of 64 bits, and every call answers a number. Each exported function reads the ledger,
 // hands it to the call behind it, and writes it back where the answer is 0.
 ghost use Rattle.std.specs.Prelude.{◌≡◌};
-ghost use Rattle.temelyak.specs.Calls.{emptyAnswer, emptyWords, takeAnswer, takeWords, takeMap, bookAnswer, bookWords, bookMap, bookOut, serveAnswer, serveWords, serveMap, serveDesk, indexAnswer, indexOut, decimalAnswer, decimalOut, builtOf};
-ghost use Rattle.temelyak.specs.Inside.{handedBack};
+ghost use Rattle.temelyak.specs.Calls.{empty_answer, empty_words, take_answer, take_words, take_map, book_answer, book_words, book_map, book_out, serve_answer, serve_words, serve_map, serve_desk, index_answer, index_out, decimal_answer, decimal_out, built_of};
+ghost use Rattle.temelyak.specs.Inside.{handed_back};
 ghost use Rattle.c_words.specs.Header.{headed};
 ghost use Rattle.c_words.specs.Inside.{settled};
 
@@ -14,7 +14,7 @@ use slot::Slot;
 // Writes an empty ledger.
 #[unsafe(no_mangle)]
 pub extern "C" fn temelyak_empty(header: u64, ledger: &mut [u64]) -> u32
-    ensures { (result ≡ emptyAnswer header ledger.old) × (ledger.new ≡ emptyWords header ledger.old) }
+    ensures { (result ≡ empty_answer header ledger.old) × (ledger.new ≡ empty_words header ledger.old) }
 {
     if ledger.len() != c_words::WORDS {
         return c_words::answer_by(header, c_words::OTHER_SIZE);
@@ -37,7 +37,7 @@ pub extern "C" fn temelyak_take(
     map: &mut [u8],
     bytes: &[u8],
 ) -> u32
-    ensures { (result ≡ takeAnswer header ledger.old map.old bytes.now) × (ledger.new ≡ takeWords header ledger.old map.old bytes.now) × (map.new ≡ takeMap header ledger.old map.old bytes.now) }
+    ensures { (result ≡ take_answer header ledger.old map.old bytes.now) × (ledger.new ≡ take_words header ledger.old map.old bytes.now) × (map.new ≡ take_map header ledger.old map.old bytes.now) }
 {
     let taken = c_words::lent_ledger(header, &ledger[..]).take(map, bytes);
     c_words::settle(header, ledger, taken)
@@ -52,7 +52,7 @@ pub extern "C" fn temelyak_take_book(
     bytes: &[u8],
     out: &mut [u64],
 ) -> u32
-    ensures { (result ≡ bookAnswer header ledger.old map.old bytes.now out.old) × (ledger.new ≡ bookWords header ledger.old map.old bytes.now out.old) × (map.new ≡ bookMap header ledger.old map.old bytes.now out.old) × (out.new ≡ bookOut header ledger.old map.old bytes.now out.old) }
+    ensures { (result ≡ book_answer header ledger.old map.old bytes.now out.old) × (ledger.new ≡ book_words header ledger.old map.old bytes.now out.old) × (map.new ≡ book_map header ledger.old map.old bytes.now out.old) × (out.new ≡ book_out header ledger.old map.old bytes.now out.old) }
 {
     if out.len() != 2 {
         return c_words::answer_by(header, c_words::OTHER_SIZE);
@@ -80,7 +80,7 @@ pub extern "C" fn temelyak_take_book(
 
 // The answer of the desk, whose ledger is written where it is 0.
 fn settle_served(header: u64, ledger: &mut [u64], served: Served) -> u32
-    ensures { (result ≡ headed header served.answer) × (ledger.new ≡ settled header ledger.old (handedBack served)) }
+    ensures { (result ≡ headed header served.answer) × (ledger.new ≡ settled header ledger.old (handed_back served)) }
 {
     let next = served.ledger;
     c_words::settle(
@@ -102,7 +102,7 @@ pub extern "C" fn temelyak_serve(
     desk: &mut [Slot],
     bytes: &[u8],
 ) -> u32
-    ensures { (result ≡ serveAnswer header ledger.old map.old desk.old bytes.now) × (ledger.new ≡ serveWords header ledger.old map.old desk.old bytes.now) × (map.new ≡ serveMap header ledger.old map.old desk.old bytes.now) × (desk.new ≡ serveDesk header ledger.old map.old desk.old bytes.now) }
+    ensures { (result ≡ serve_answer header ledger.old map.old desk.old bytes.now) × (ledger.new ≡ serve_words header ledger.old map.old desk.old bytes.now) × (map.new ≡ serve_map header ledger.old map.old desk.old bytes.now) × (desk.new ≡ serve_desk header ledger.old map.old desk.old bytes.now) }
 {
     let lent = c_words::lent_ledger(header, ledger);
     let served = desk::serve(lent, map, desk, bytes);
@@ -119,7 +119,7 @@ pub extern "C" fn temelyak_index(
     set: u32,
     out: &mut [u64],
 ) -> u32
-    ensures { (result ≡ indexAnswer header ledger.now index level set out.old) × (out.new ≡ indexOut header ledger.now index level set out.old) }
+    ensures { (result ≡ index_answer header ledger.now index level set out.old) × (out.new ≡ index_out header ledger.now index level set out.old) }
 {
     if !c_codes::all_named(index, level, set) {
         return 255;
@@ -148,7 +148,7 @@ pub extern "C" fn temelyak_decimal(
     digits: u32,
     out: &mut [u64],
 ) -> u32
-    ensures { (result ≡ decimalAnswer header ledger.now index level set digits out.old) × (out.new ≡ decimalOut header ledger.now index level set digits out.old) }
+    ensures { (result ≡ decimal_answer header ledger.now index level set digits out.old) × (out.new ≡ decimal_out header ledger.now index level set digits out.old) }
 {
     if !c_codes::all_named(index, level, set) {
         return 255;
@@ -170,7 +170,7 @@ pub extern "C" fn temelyak_decimal(
 // What this library was built with: version, ledger words, slot bytes, map bytes and slots; 0 for any other.
 #[unsafe(no_mangle)]
 pub extern "C" fn temelyak_built(which: u32) -> u64
-    ensures { result ≡ builtOf which }
+    ensures { result ≡ built_of which }
 {
     if which == 0 {
         return c_words::VERSION;

@@ -12,17 +12,17 @@ use Rattle.text.proofs.Text.with_number.Reads as with_number
 use Rattle.text.proofs.Text.with_two.Kinds as with-two-kinds
 use Rattle.text.proofs.Text.with_two.Reads as with_two
 
-pub empty-one : OneOutcome empty-kinds.ps empty-kinds.r empty.Post
-empty-one κs a x y v w p q = (alike p q, refl)
+pub empty_one : OneOutcome empty-kinds.ps empty-kinds.r empty.Post
+empty_one κs a x y v w p q = (alike p q, refl)
 
-pub with-byte-one : OneOutcome with-byte-kinds.ps with-byte-kinds.r with_byte.Post
-with-byte-one κs a x y v w p q = (alike p q, refl)
+pub with_byte_one : OneOutcome with-byte-kinds.ps with-byte-kinds.r with_byte.Post
+with_byte_one κs a x y v w p q = (alike p q, refl)
 
-pub with-words-one : OneOutcome with-words-kinds.ps with-words-kinds.r with-words.Post
-with-words-one κs a x y v w p q = (alike p q, refl)
+pub with_words_one : OneOutcome with-words-kinds.ps with-words-kinds.r with-words.Post
+with_words_one κs a x y v w p q = (alike p q, refl)
 
-pub with-number-one : OneOutcome with-number-kinds.ps with-number-kinds.r with_number.Post
-with-number-one κs a x y v w p q = (alike p q, refl)
+pub with_number_one : OneOutcome with-number-kinds.ps with-number-kinds.r with_number.Post
+with_number_one κs a x y v w p q = (alike p q, refl)
 
-pub with-two-one : OneOutcome with-two-kinds.ps with-two-kinds.r with_two.Post
-with-two-one κs a x y v w p q = (alike p q, refl)
+pub with_two_one : OneOutcome with-two-kinds.ps with-two-kinds.r with_two.Post
+with_two_one κs a x y v w p q = (alike p q, refl)

@@ -10,19 +10,19 @@ text_of bytes = record { bytes = bytes ++ replicate (1024 - length bytes) 0; len
 unfoldable pub pushed : Text → ℕ → Text
 pushed t b = cond (leb 1024 t.len) t (record { bytes = set t.bytes t.len b; len = t.len + 1 })
 
-abbrev pub pushedAll : Text → List ℕ → Text
-pushedAll t [] = t
-pushedAll t (b ∷ bs) = pushedAll (pushed t b) bs
+abbrev pub pushed_all : Text → List ℕ → Text
+pushed_all t [] = t
+pushed_all t (b ∷ bs) = pushed_all (pushed t b) bs
 
 -- the decimal digits of a number below ten to the k, the most significant first
-abbrev pub digitsIn : ℕ → ℕ → List ℕ
-digitsIn zero n = []
-digitsIn (suc k) n = cond (ltb n 10) ((48 + n) ∷ []) (digitsIn k (n / 10) ++ ((48 + n % 10) ∷ []))
+abbrev pub digits_in : ℕ → ℕ → List ℕ
+digits_in zero n = []
+digits_in (suc k) n = cond (ltb n 10) ((48 + n) ∷ []) (digits_in k (n / 10) ++ ((48 + n % 10) ∷ []))
 
 -- a number below ten to the 20th, as every 64-bit number is
-unfoldable pub numberText : ℕ → List ℕ
-numberText n = digitsIn 20 n
+unfoldable pub number_text : ℕ → List ℕ
+number_text n = digits_in 20 n
 
 -- the last two digits
-abbrev pub twoText : ℕ → List ℕ
-twoText n = (48 + n / 10 % 10) ∷ (48 + n % 10) ∷ []
+abbrev pub two_text : ℕ → List ℕ
+two_text n = (48 + n / 10 % 10) ∷ (48 + n % 10) ∷ []

@@ -1,6 +1,6 @@
 // Text put together byte by byte in an array by value.
 ghost use Rattle.std.specs.Prelude.{◌≡◌, []};
-ghost use Rattle.text.specs.Text.{text_of, pushed, pushedAll, numberText, twoText};
+ghost use Rattle.text.specs.Text.{text_of, pushed, pushed_all, number_text, two_text};
 
 // The text, and how long it is; the bytes past it are 0.
 #[derive(Drop)]
@@ -36,7 +36,7 @@ impl Text {
 
     // The text with some words more.
     pub fn with_words(self, words: &[u8]) -> Text
-        ensures { result ≡ pushedAll self words.now }
+        ensures { result ≡ pushed_all self words.now }
     {
         let mut t = self;
         let mut i = 0;
@@ -49,7 +49,7 @@ impl Text {
 
     // The text with a number in decimal digits, the most significant first.
     pub fn with_number(self, n: u64) -> Text
-        ensures { result ≡ pushedAll self (numberText n) }
+        ensures { result ≡ pushed_all self (number_text n) }
     {
         if n < 10 {
             return self.with_byte(48 + n as u8);
@@ -59,7 +59,7 @@ impl Text {
 
     // The text with the last two digits of a number.
     pub fn with_two(self, n: u64) -> Text
-        ensures { result ≡ pushedAll self (twoText n) }
+        ensures { result ≡ pushed_all self (two_text n) }
     {
         self.with_byte(48 + (n / 10 % 10) as u8)
             .with_byte(48 + (n % 10) as u8)

@@ -11,20 +11,20 @@ use native.Mathlib.Omega.{arith}
 use native.Mathlib.Nat.{pow-suc}
 use borrow.Author.Tests.{ltb-true, ltb-false, le-ltb, le-leb}
 use Rattle.base.proofs.TestLaws.{Tested, holds, fails, test, and_both}
-use Rattle.base.proofs.ListLaws.{every-at}
+use Rattle.base.proofs.ListLaws.{every_at}
 use Rattle.wire.specs.Numbers.{byte_at}
-use Rattle.text.specs.Text.{digitsIn, numberText}
-use Rattle.text.proofs.TextLaws.{last-digit-alone, last-digit-after, every-digit}
-use Rattle.text_scan.specs.Scan.{isDigit, grown, digitsFrom, digitsOf}
+use Rattle.text.specs.Text.{digits_in, number_text}
+use Rattle.text.proofs.TextLaws.{last_digit_alone, last_digit_after, every_digit}
+use Rattle.text_scan.specs.Scan.{is_digit, grown, digits_from, digits_of}
 
 -- no digit stands in front
-abbrev pub digitFree : List ℕ → Type 0
-digitFree rest = isDigit (byte_at rest 0) ≡ false
+abbrev pub digit_free : List ℕ → Type 0
+digit_free rest = is_digit (byte_at rest 0) ≡ false
 
 -- a number below ten is a digit of the scanner
-pub digit-stands : (d : ℕ) → d < 10 → isDigit (48 + d) ≡ true
-unfolding isDigit
-digit-stands d h = and_both (leb 48 (48 + d)) (leb (48 + d) 57) (le-leb 48 (48 + d) (omega arith)) (le-leb (48 + d) 57 (omega arith))
+pub digit_stands : (d : ℕ) → d < 10 → is_digit (48 + d) ≡ true
+unfolding is_digit
+digit_stands d h = and_both (leb 48 (48 + d)) (leb (48 + d) 57) (le-leb 48 (48 + d) (omega arith)) (le-leb (48 + d) 57 (omega arith))
 
 grows : (v d : ℕ) → v ≤ 4294967295 → grown v (48 + d) ≡ v * 10 + d
 unfolding grown
@@ -33,19 +33,19 @@ grows v d h =
     rw (le-ltb 4294967295 v h, e)
 
 -- a digit is read, and what is none ends the run
-pub digit-read : (v u d : ℕ) (s : List ℕ) → v ≤ 4294967295 → d < 10 → digitsFrom v u ((48 + d) ∷ s) ≡ digitsFrom (v * 10 + d) (u + 1) s
-digit-read v u d s h l = rw (digit-stands d l, grows v d h)
+pub digit_read : (v u d : ℕ) (s : List ℕ) → v ≤ 4294967295 → d < 10 → digits_from v u ((48 + d) ∷ s) ≡ digits_from (v * 10 + d) (u + 1) s
+digit_read v u d s h l = rw (digit_stands d l, grows v d h)
 
-pub run-stops : (v u : ℕ) (rest : List ℕ) → digitFree rest → digitsFrom v u rest ≡ record { value = v; used = u }
-run-stops v u [] e = refl
-run-stops v u (b ∷ rest) e = rw e
+pub run_stops : (v u : ℕ) (rest : List ℕ) → digit_free rest → digits_from v u rest ≡ record { value = v; used = u }
+run_stops v u [] e = refl
+run_stops v u (b ∷ rest) e = rw e
 
 -- the digits of a number, one after the other
-pub digits-read : (k n : ℕ) (s : List ℕ) → n < 10 ^ k → n ≤ 4294967295 → digitsFrom 0 0 (digitsIn k n ++ s) ≡ digitsFrom n (length (digitsIn k n)) s
-digits-read zero n s h l =
+pub digits_read : (k n : ℕ) (s : List ℕ) → n < 10 ^ k → n ≤ 4294967295 → digits_from 0 0 (digits_in k n ++ s) ≡ digits_from n (length (digits_in k n)) s
+digits_read zero n s h l =
     let z : n ≡ 0 = omega arith in
     rw z
-digits-read (suc k) n s h l = go (digits-read k (n / 10) ((48 + n % 10) ∷ s) tenth (omega arith)) (test (ltb n 10))
+digits_read (suc k) n s h l = go (digits_read k (n / 10) ((48 + n % 10) ∷ s) tenth (omega arith)) (test (ltb n 10))
   where
     tenth : n / 10 < 10 ^ k
     tenth =
@@ -53,54 +53,54 @@ digits-read (suc k) n s h l = go (digits-read k (n / 10) ((48 + n % 10) ∷ s) t
         let q : n / 10 * 10 ≤ n = omega arith in
         omega arith
 
-    alone : n < 10 → digitsFrom 0 0 (digitsIn (suc k) n ++ s) ≡ digitsFrom n (length (digitsIn (suc k) n)) s
+    alone : n < 10 → digits_from 0 0 (digits_in (suc k) n ++ s) ≡ digits_from n (length (digits_in (suc k) n)) s
     alone b =
         let e : 0 * 10 + n ≡ n = omega arith in
-        rw (last-digit-alone k n b, digit-read 0 0 n s (omega arith) b, e)
+        rw (last_digit_alone k n b, digit_read 0 0 n s (omega arith) b, e)
 
     after :
         10 ≤ n →
-        digitsFrom 0 0 (digitsIn k (n / 10) ++ (48 + n % 10) ∷ s) ≡ digitsFrom (n / 10) (length (digitsIn k (n / 10))) ((48 + n % 10) ∷ s) →
-        digitsFrom 0 0 (digitsIn (suc k) n ++ s) ≡ digitsFrom n (length (digitsIn (suc k) n)) s
+        digits_from 0 0 (digits_in k (n / 10) ++ (48 + n % 10) ∷ s) ≡ digits_from (n / 10) (length (digits_in k (n / 10))) ((48 + n % 10) ∷ s) →
+        digits_from 0 0 (digits_in (suc k) n ++ s) ≡ digits_from n (length (digits_in (suc k) n)) s
     after b ih =
         let e : n / 10 * 10 + n % 10 ≡ n = omega arith in
         rw (
-          last-digit-after k n b,
-          append_snoc (digitsIn k (n / 10)) (48 + n % 10) s,
+          last_digit_after k n b,
+          append_snoc (digits_in k (n / 10)) (48 + n % 10) s,
           ih,
-          digit-read (n / 10) (length (digitsIn k (n / 10))) (n % 10) s (omega arith) (omega arith),
-          length-append (digitsIn k (n / 10)) ((48 + n % 10) ∷ []),
+          digit_read (n / 10) (length (digits_in k (n / 10))) (n % 10) s (omega arith) (omega arith),
+          length-append (digits_in k (n / 10)) ((48 + n % 10) ∷ []),
           e,
         )
 
     go :
-        digitsFrom 0 0 (digitsIn k (n / 10) ++ (48 + n % 10) ∷ s) ≡ digitsFrom (n / 10) (length (digitsIn k (n / 10))) ((48 + n % 10) ∷ s) →
+        digits_from 0 0 (digits_in k (n / 10) ++ (48 + n % 10) ∷ s) ≡ digits_from (n / 10) (length (digits_in k (n / 10))) ((48 + n % 10) ∷ s) →
         Tested (ltb n 10) →
-        digitsFrom 0 0 (digitsIn (suc k) n ++ s) ≡ digitsFrom n (length (digitsIn (suc k) n)) s
+        digits_from 0 0 (digits_in (suc k) n ++ s) ≡ digits_from n (length (digits_in (suc k) n)) s
     go ih (holds e) = alone (ltb-true n 10 e)
     go ih (fails e) = after (ltb-false n 10 e) ih
 
 -- reading a printed number gives the number
-pub number-back : (n : ℕ) (rest : List ℕ) → n ≤ 4294967295 → digitFree rest → digitsOf (numberText n ++ rest) ≡ record { value = n; used = length (numberText n) }
-unfolding digitsOf numberText
-number-back n rest h free = digits-read 20 n rest (omega arith) h ∙ run-stops n (length (digitsIn 20 n)) rest free
+pub number_back : (n : ℕ) (rest : List ℕ) → n ≤ 4294967295 → digit_free rest → digits_of (number_text n ++ rest) ≡ record { value = n; used = length (number_text n) }
+unfolding digits_of number_text
+number_back n rest h free = digits_read 20 n rest (omega arith) h ∙ run_stops n (length (digits_in 20 n)) rest free
 
 -- a number has a digit, and each of its bytes is one
-digits-some : (k n : ℕ) → 1 ≤ length (digitsIn (suc k) n)
-digits-some k n = go (test (ltb n 10))
+digits_some : (k n : ℕ) → 1 ≤ length (digits_in (suc k) n)
+digits_some k n = go (test (ltb n 10))
   where
-    go : Tested (ltb n 10) → 1 ≤ length (digitsIn (suc k) n)
-    go (holds e) = rw (last-digit-alone k n (ltb-true n 10 e)) (omega arith)
-    go (fails e) = rw (last-digit-after k n (ltb-false n 10 e), length-append (digitsIn k (n / 10)) ((48 + n % 10) ∷ [])) (omega arith)
+    go : Tested (ltb n 10) → 1 ≤ length (digits_in (suc k) n)
+    go (holds e) = rw (last_digit_alone k n (ltb-true n 10 e)) (omega arith)
+    go (fails e) = rw (last_digit_after k n (ltb-false n 10 e), length-append (digits_in k (n / 10)) ((48 + n % 10) ∷ [])) (omega arith)
 
-pub number-some : (n : ℕ) → 1 ≤ length (numberText n)
-unfolding numberText
-number-some n = digits-some 19 n
+pub number_some : (n : ℕ) → 1 ≤ length (number_text n)
+unfolding number_text
+number_some n = digits_some 19 n
 
-pub number-digit : (n i : ℕ) (rest : List ℕ) → i < length (numberText n) → isDigit (byte_at (numberText n ++ rest) i) ≡ true
-unfolding isDigit
-number-digit n i rest h = rw (get_or-append (numberText n) rest 0 i h) (every-at isDigit 0 (numberText n) (every-digit n) i h)
+pub number_digit : (n i : ℕ) (rest : List ℕ) → i < length (number_text n) → is_digit (byte_at (number_text n ++ rest) i) ≡ true
+unfolding is_digit
+number_digit n i rest h = rw (get_or-append (number_text n) rest 0 i h) (every_at is_digit 0 (number_text n) (every_digit n) i h)
 
 -- so it begins with one
-pub number-begins : (n : ℕ) (rest : List ℕ) → isDigit (byte_at (numberText n ++ rest) 0) ≡ true
-number-begins n rest = number-digit n 0 rest (number-some n)
+pub number_begins : (n : ℕ) (rest : List ℕ) → is_digit (byte_at (number_text n ++ rest) 0) ≡ true
+number_begins n rest = number_digit n 0 rest (number_some n)

@@ -3,19 +3,19 @@ use Rattle.std.specs.Prelude.{ℕ, ◌≡◌, List, [], ◌∷◌, ◌++◌, con
 use Rattle.base.specs.Lists.{All}
 
 -- the bytes of lines, each with its newline
-abbrev pub textBytes : List (List ℕ) → List ℕ
-textBytes [] = []
-textBytes (l ∷ ls) = l ++ (10 ∷ textBytes ls)
+abbrev pub text_bytes : List (List ℕ) → List ℕ
+text_bytes [] = []
+text_bytes (l ∷ ls) = l ++ (10 ∷ text_bytes ls)
 
 -- a byte in front of a text's lines stands in the first one
-abbrev pub inFront : ℕ → List (List ℕ) → List (List ℕ)
-inFront b [] = (b ∷ []) ∷ []
-inFront b (l ∷ ls) = (b ∷ l) ∷ ls
+abbrev pub in_front : ℕ → List (List ℕ) → List (List ℕ)
+in_front b [] = (b ∷ []) ∷ []
+in_front b (l ∷ ls) = (b ∷ l) ∷ ls
 
 -- the lines of a text's bytes
-abbrev pub textLines : List ℕ → List (List ℕ)
-textLines [] = []
-textLines (b ∷ bs) = cond (eqb b 10) ([] ∷ textLines bs) (inFront b (textLines bs))
+abbrev pub text_lines : List ℕ → List (List ℕ)
+text_lines [] = []
+text_lines (b ∷ bs) = cond (eqb b 10) ([] ∷ text_lines bs) (in_front b (text_lines bs))
 
 -- bytes without a newline
 abbrev pub OneLine : List ℕ → Type 0

@@ -10,14 +10,14 @@ use Rattle.text_items.proofs.is_whole.Reads as is_whole
 use Rattle.text_items.proofs.bar_before.Kinds as bar-before-kinds
 use Rattle.text_items.proofs.bar_before.Reads as bar-before
 
-pub item-of-one : OneOutcome item-of-kinds.ps item-of-kinds.r item_of.Post
-item-of-one κs a x y v w p q = (alike p q, refl)
+pub item_of_one : OneOutcome item-of-kinds.ps item-of-kinds.r item_of.Post
+item_of_one κs a x y v w p q = (alike p q, refl)
 
-pub most-of-one : OneOutcome most-of-kinds.ps most-of-kinds.r most-of.Post
-most-of-one κs a x y v w p q = (alike p q, refl)
+pub most_of_one : OneOutcome most-of-kinds.ps most-of-kinds.r most-of.Post
+most_of_one κs a x y v w p q = (alike p q, refl)
 
-pub is-whole-one : OneOutcome is-whole-kinds.ps is-whole-kinds.r is_whole.Post
-is-whole-one κs a x y v w p q = (alike p q, refl)
+pub is_whole_one : OneOutcome is-whole-kinds.ps is-whole-kinds.r is_whole.Post
+is_whole_one κs a x y v w p q = (alike p q, refl)
 
-pub bar-before-one : OneOutcome bar-before-kinds.ps bar-before-kinds.r bar-before.Post
-bar-before-one κs a x y v w p q = (alike p q, refl)
+pub bar_before_one : OneOutcome bar-before-kinds.ps bar-before-kinds.r bar-before.Post
+bar_before_one κs a x y v w p q = (alike p q, refl)

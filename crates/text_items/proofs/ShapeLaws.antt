@@ -9,14 +9,14 @@ use Rattle.base.proofs.TestLaws.{Tested, holds, fails, test}
 use Rattle.text_items.specs.Shape.{most_of, whole_of}
 
 -- how many items each sort has at most
-pub most-at : (most_of 0 ≡ 0) × (most_of 1 ≡ 4) × (most_of 2 ≡ 15) × (most_of 3 ≡ 261) × (most_of 4 ≡ 32)
+pub most_at : (most_of 0 ≡ 0) × (most_of 1 ≡ 4) × (most_of 2 ≡ 15) × (most_of 3 ≡ 261) × (most_of 4 ≡ 32)
 unfolding most_of
-most-at = (refl, refl, refl, refl, refl)
+most_at = (refl, refl, refl, refl, refl)
 
 -- no sort has more than 261
-pub most-small : (kind : ℕ) → most_of kind ≤ 261
+pub most_small : (kind : ℕ) → most_of kind ≤ 261
 unfolding most_of
-most-small kind = go (test (eqb kind 1)) (test (eqb kind 2)) (test (eqb kind 3)) (test (eqb kind 4))
+most_small kind = go (test (eqb kind 1)) (test (eqb kind 2)) (test (eqb kind 3)) (test (eqb kind 4))
   where
     go : Tested (eqb kind 1) → Tested (eqb kind 2) → Tested (eqb kind 3) → Tested (eqb kind 4) → most_of kind ≤ 261
     go (holds a) b c d = rw (most_of, a) (omega arith)
@@ -31,18 +31,18 @@ past true b e = absurd (subst T (sym e) tt)
 past false b e = (refl, e)
 
 -- a sheet and a simple event are whole with as many items as they have at most
-pub whole-sheet : (count : ℕ) → whole_of 1 count ≡ true → count ≡ 4
+pub whole_sheet : (count : ℕ) → whole_of 1 count ≡ true → count ≡ 4
 unfolding whole_of most_of
-whole-sheet count e = eqb-true count 4 (past (eqb count 0) (eqb count 4) e).1
+whole_sheet count e = eqb-true count 4 (past (eqb count 0) (eqb count 4) e).1
 
-pub whole-simple : (count : ℕ) → whole_of 2 count ≡ true → count ≡ 15
+pub whole_simple : (count : ℕ) → whole_of 2 count ≡ true → count ≡ 15
 unfolding whole_of most_of
-whole-simple count e = eqb-true count 15 (past (eqb count 0) (eqb count 15) e).1
+whole_simple count e = eqb-true count 15 (past (eqb count 0) (eqb count 15) e).1
 
 -- a stepped event has its five items and 1 to 64 times four
-pub whole-stepped : (count : ℕ) → whole_of 3 count ≡ true → (9 ≤ count) × (count ≤ 261) × (count ≡ 5 + 4 * ((count - 5) / 4))
+pub whole_stepped : (count : ℕ) → whole_of 3 count ≡ true → (9 ≤ count) × (count ≤ 261) × (count ≡ 5 + 4 * ((count - 5) / 4))
 unfolding whole_of
-whole-stepped count e =
+whole_stepped count e =
     let few = past (ltb count 9) (cond (ltb 261 count) false (eqb ((count - 5) % 4) 0)) e in
     let many = past (ltb 261 count) (eqb ((count - 5) % 4) 0) few.1 in
     let least : 9 ≤ count = ltb-false count 9 few.0 in
@@ -50,24 +50,24 @@ whole-stepped count e =
     (least, ltb-false 261 count many.0, omega arith)
 
 -- a line of bytes has 1 to 32 of them
-pub whole-bytes : (count : ℕ) → whole_of 4 count ≡ true → (1 ≤ count) × (count ≤ 32)
+pub whole_bytes : (count : ℕ) → whole_of 4 count ≡ true → (1 ≤ count) × (count ≤ 32)
 unfolding whole_of
-whole-bytes count e =
+whole_bytes count e =
     let some = past (eqb count 0) (leb count 32) e in
-    (one-or-more count (eqb-false count 0 some.0), leb-true count 32 some.1)
+    (one_or_more count (eqb-false count 0 some.0), leb-true count 32 some.1)
   where
-    one-or-more : (n : ℕ) → (n ≡ 0 → ⊥) → 1 ≤ n
-    one-or-more zero h = absurd (h refl)
-    one-or-more (suc n) h = omega arith
+    one_or_more : (n : ℕ) → (n ≡ 0 → ⊥) → 1 ≤ n
+    one_or_more zero h = absurd (h refl)
+    one_or_more (suc n) h = omega arith
 
 never : (t : Bool) → cond t false t ≡ true → ⊥
 never true h = subst T (sym h) tt
 never false h = subst T (sym h) tt
 
 -- only the four sorts are ever whole
-pub whole-sort : (kind count : ℕ) → whole_of kind count ≡ true → (eqb kind 1 ≡ false) → (eqb kind 2 ≡ false) → (eqb kind 3 ≡ false) → kind ≡ 4
+pub whole_sort : (kind count : ℕ) → whole_of kind count ≡ true → (eqb kind 1 ≡ false) → (eqb kind 2 ≡ false) → (eqb kind 3 ≡ false) → kind ≡ 4
 unfolding whole_of most_of
-whole-sort kind count e a b c = go (test (eqb kind 4))
+whole_sort kind count e a b c = go (test (eqb kind 4))
   where
     go : Tested (eqb kind 4) → kind ≡ 4
     go (holds d) = eqb-true kind 4 d

@@ -7,8 +7,8 @@ use Rattle.text_items.specs.declared.Entry.{Entry}
 -- bytes, 4 a time, 5 two hexadecimal digits
 
 -- "number 2, type 1, voltage 1, cause 1, T0", then "T1 T2 T3 T4, n1 3x4, n2 3x4" or "per step: time, 3 counts"
-unfoldable pub eventItem : ℕ → ℕ → ℕ
-eventItem kind k =
+unfoldable pub event_item : ℕ → ℕ → ℕ
+event_item kind k =
     cond (eqb k 0) 2
     (cond (ltb k 4) 1
     (cond (eqb k 4) 4
@@ -16,11 +16,11 @@ eventItem kind k =
     (cond (eqb ((k - 5) % 4) 0) 4 3))))
 
 -- "year 2, customers of each level 3x4"
-unfoldable pub itemOf : ℕ → ℕ → ℕ
-itemOf kind k =
+unfoldable pub item_of : ℕ → ℕ → ℕ
+item_of kind k =
     cond (eqb kind 4) 5
     (cond (eqb kind 1) (cond (eqb k 0) 2 3)
-    (eventItem kind k))
+    (event_item kind k))
 
 -- how many items a line has at most: "Steps are 1 to 64"
 unfoldable pub most_of : ℕ → ℕ
@@ -34,8 +34,8 @@ whole_of kind count =
     (cond (eqb count 0) false (eqb count (most_of kind))))
 
 -- a bar parts the codes from the times, the times from the counts, and each step from the one before
-unfoldable pub barBefore : ℕ → ℕ → Bool
-barBefore kind k =
+unfoldable pub bar_before : ℕ → ℕ → Bool
+bar_before kind k =
     cond (eqb kind 1) (eqb k 1)
     (cond (eqb kind 4) false
     (cond (ltb k 4) false
@@ -48,14 +48,14 @@ abbrev pub entry_of : ℕ → List ℕ → Entry
 entry_of kind vs = record { kind = kind; count = length vs; values = vs ++ replicate (261 - length vs) 0 }
 
 -- no line
-abbrev pub noEntry : Entry
-noEntry = entry_of 0 []
+abbrev pub no_entry : Entry
+no_entry = entry_of 0 []
 
 -- the largest number that an item takes
-unfoldable pub limitOf : ℕ → ℕ
-limitOf item = cond (eqb item 1) 255 (cond (eqb item 2) 65535 (cond (eqb item 5) 255 4294967295))
+unfoldable pub limit_of : ℕ → ℕ
+limit_of item = cond (eqb item 1) 255 (cond (eqb item 2) 65535 (cond (eqb item 5) 255 4294967295))
 
 -- each of the numbers from the k-th on is within its item's
-abbrev pub withinFrom : ℕ → ℕ → List ℕ → Bool
-withinFrom kind k [] = true
-withinFrom kind k (v ∷ vs) = leb v (limitOf (itemOf kind k)) && withinFrom kind (k + 1) vs
+abbrev pub within_from : ℕ → ℕ → List ℕ → Bool
+within_from kind k [] = true
+within_from kind k (v ∷ vs) = leb v (limit_of (item_of kind k)) && within_from kind (k + 1) vs

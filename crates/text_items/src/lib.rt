@@ -1,6 +1,6 @@
 // The lines of a book's text: which items stand in a line of each sort, one after the other.
 ghost use Rattle.std.specs.Prelude.{◌≡◌};
-ghost use Rattle.text_items.specs.Shape.{itemOf, most_of, whole_of, barBefore};
+ghost use Rattle.text_items.specs.Shape.{item_of, most_of, whole_of, bar_before};
 
 // The sorts of line. The first three are the kinds of the record that they stand for; a line of bytes stands for what no other line expresses.
 pub const BLANK: u8 = 0;
@@ -34,7 +34,7 @@ pub struct Entry {
 
 // The sort of an item of an event's line.
 fn event_item(kind: u8, k: usize) -> u8
-    ensures { result ≡ Rattle.text_items.specs.Shape.eventItem kind k }
+    ensures { result ≡ Rattle.text_items.specs.Shape.event_item kind k }
 {
     if k == 0 {
         return PAIR;
@@ -56,7 +56,7 @@ fn event_item(kind: u8, k: usize) -> u8
 
 // The sort of an item, by its place in the line.
 pub fn item_of(kind: u8, k: usize) -> u8
-    ensures { result ≡ itemOf kind k }
+    ensures { result ≡ item_of kind k }
 {
     if kind == HEX {
         return DIGITS;
@@ -116,7 +116,7 @@ pub fn is_whole(kind: u8, count: usize) -> bool
 
 // Whether a bar parts an item from those before it.
 pub fn bar_before(kind: u8, k: usize) -> bool
-    ensures { result ≡ barBefore kind k }
+    ensures { result ≡ bar_before kind k }
 {
     if kind == SHEET {
         return k == 1;

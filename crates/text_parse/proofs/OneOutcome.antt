@@ -6,8 +6,8 @@ use Rattle.text_parse.proofs.parse.Reads as parse
 use Rattle.text_parse.proofs.item_refused.Kinds as item-refused-kinds
 use Rattle.text_parse.proofs.item_refused.Reads as Item-refused
 
-pub parse-one : OneOutcome parse-kinds.ps parse-kinds.r parse.Post
-parse-one κs a x y v w p q = (alike p q, refl)
+pub parse_one : OneOutcome parse-kinds.ps parse-kinds.r parse.Post
+parse_one κs a x y v w p q = (alike p q, refl)
 
-pub item-refused-one : OneOutcome item-refused-kinds.ps item-refused-kinds.r Item-refused.Post
-item-refused-one κs a x y v w p q = (alike p q, refl)
+pub item_refused_one : OneOutcome item-refused-kinds.ps item-refused-kinds.r Item-refused.Post
+item_refused_one κs a x y v w p q = (alike p q, refl)

@@ -1,6 +1,6 @@
 // A line of text read as an entry: its word, then its items, each parted from the next.
 ghost use Rattle.std.specs.Prelude.{◌≡◌};
-ghost use Rattle.text_parse.specs.Entry.{beginsWith, wordOf, nextField, itemDue, gapBefore, nextCell, refusedAt, gathered, parsedOf, itemsRead, itemRefused};
+ghost use Rattle.text_parse.specs.Entry.{begins_with, word_of, next_field, item_due, gap_before, next_cell, refused_at, gathered, parsed_of, items_read, item_refused};
 
 use text_items::Entry;
 use text_scan::Found;
@@ -23,7 +23,7 @@ pub struct Parsed {
 
 // Whether a line begins with a word.
 fn begins_with(s: &[u8], word: &[u8]) -> bool
-    ensures { result ≡ beginsWith s.now word.now }
+    ensures { result ≡ begins_with s.now word.now }
 {
     if s.len() < word.len() {
         return false;
@@ -40,7 +40,7 @@ fn begins_with(s: &[u8], word: &[u8]) -> bool
 
 // Whether a word stands in front, parted from what follows.
 fn is_word(s: &[u8], word: &[u8]) -> bool
-    ensures { result ≡ Rattle.text_parse.specs.Entry.isWord s.now word.now }
+    ensures { result ≡ Rattle.text_parse.specs.Entry.is_word s.now word.now }
 {
     if !begins_with(s, word) {
         return false;
@@ -50,7 +50,7 @@ fn is_word(s: &[u8], word: &[u8]) -> bool
 
 // The word in front.
 fn word_of(s: &[u8]) -> Word
-    ensures { result ≡ wordOf s.now }
+    ensures { result ≡ word_of s.now }
 {
     if is_word(s, b"sheet") {
         return Word {
@@ -84,7 +84,7 @@ fn word_of(s: &[u8]) -> Word
 
 // The k-th item of a line of a sort, past the gaps in front.
 fn next_field(s: &[u8], kind: u8, k: usize, year: u16) -> Found
-    ensures { result ≡ nextField s.now kind k year }
+    ensures { result ≡ next_field s.now kind k year }
 {
     let skipped = text_scan::gaps_in(s);
     let body = wire::part(s, skipped, s.len());
@@ -127,7 +127,7 @@ fn next_field(s: &[u8], kind: u8, k: usize, year: u16) -> Found
 
 // Whether a line goes on with an item that a line of its sort has room for.
 fn item_due(s: &[u8], kind: u8, k: usize) -> bool
-    ensures { result ≡ itemDue s.now kind k }
+    ensures { result ≡ item_due s.now kind k }
 {
     if text_scan::ends_here(s) {
         return false;
@@ -137,7 +137,7 @@ fn item_due(s: &[u8], kind: u8, k: usize) -> bool
 
 // What is said of the gap in front of the k-th item: in a line of cells it is as such a line asks. The separator is 0 in any other, where every gap is right.
 fn gap_before(s: &[u8], kind: u8, k: usize, sep: u8) -> Found
-    ensures { result ≡ gapBefore s.now kind k sep }
+    ensures { result ≡ gap_before s.now kind k sep }
 {
     if sep == 0 {
         return Found {
@@ -153,7 +153,7 @@ fn gap_before(s: &[u8], kind: u8, k: usize, sep: u8) -> Found
 
 // The k-th item of a line, where the gap in front of it is right.
 fn next_cell(s: &[u8], kind: u8, k: usize, year: u16, sep: u8) -> Found
-    ensures { result ≡ nextCell s.now kind k year sep }
+    ensures { result ≡ next_cell s.now kind k year sep }
 {
     let said = gap_before(s, kind, k, sep);
     if said.answer != 0 {
@@ -164,7 +164,7 @@ fn next_cell(s: &[u8], kind: u8, k: usize, year: u16, sep: u8) -> Found
 
 // The outcome once the items have been read: as many as the line needs, or what was expected instead.
 fn ended(answer: u8, at: usize, kind: u8, count: usize, values: [u32; 261]) -> Parsed
-    ensures { result ≡ Rattle.text_parse.specs.Entry.endedBy answer at kind count values }
+    ensures { result ≡ Rattle.text_parse.specs.Entry.ended_by answer at kind count values }
 {
     if answer != text_scan::END {
         return Parsed {
@@ -221,7 +221,7 @@ fn gather(line: &[u8], start: usize, kind: u8, year: u16, sep: u8) -> Parsed
 
 // An answer at a place, without an entry.
 fn no_entry(answer: u8, at: usize) -> Parsed
-    ensures { result ≡ refusedAt answer at }
+    ensures { result ≡ refused_at answer at }
 {
     Parsed {
         answer,
@@ -236,7 +236,7 @@ fn no_entry(answer: u8, at: usize) -> Parsed
 
 // A line, without its newline. The year is that of the sheet before it, 0 where there is none.
 pub fn parse(line: &[u8], year: u16) -> Parsed
-    ensures { result ≡ parsedOf line.now year }
+    ensures { result ≡ parsed_of line.now year }
 {
     let skipped = text_scan::gaps_in(line);
     let rest = wire::part(line, skipped, line.len());
@@ -257,7 +257,7 @@ pub fn parse(line: &[u8], year: u16) -> Parsed
 
 // How many items of a line of a sort are read, from a place on.
 fn items_read(line: &[u8], start: usize, kind: u8, year: u16, sep: u8) -> usize
-    ensures { result ≡ itemsRead line.now start kind year sep }
+    ensures { result ≡ items_read line.now start kind year sep }
 {
     let mut at = start;
     let mut read: usize = 0;
@@ -274,7 +274,7 @@ fn items_read(line: &[u8], start: usize, kind: u8, year: u16, sep: u8) -> usize
 
 // The sort of the item past those of a line that are read: where the line is refused at an item, the sort of that item.
 pub fn item_refused(line: &[u8], year: u16) -> u8
-    ensures { result ≡ itemRefused line.now year }
+    ensures { result ≡ item_refused line.now year }
 {
     let skipped = text_scan::gaps_in(line);
     let word = word_of(wire::part(line, skipped, line.len()));

@@ -1,6 +1,6 @@
 // The items of a line of text: gaps between them, numbers, times and hexadecimal digits. Each function reads the front of what is left of the line.
 ghost use Rattle.std.specs.Prelude.{◌≡◌, ◌-◌};
-ghost use Rattle.text_scan.specs.Scan.{isGap, gapsIn, endsHere, partedHere, saidAt, separates, separatorOf, isOther, otherAt, separatorPlace, gapSaid, digitsOf, numberFound, dateFound, timeFound, hexFound, itemFound};
+ghost use Rattle.text_scan.specs.Scan.{is_gap, gaps_in, ends_here, parted_here, said_at, separates, separator_of, is_other, other_at, separator_place, gap_said, digits_of, number_found, date_found, time_found, hex_found, item_found};
 
 use calendar::Date;
 
@@ -55,7 +55,7 @@ pub struct Digits {
 
 // Whether a byte parts items: a space, a tab, a comma, a semicolon, a bar or a carriage return.
 pub fn is_gap(b: u8) -> bool
-    ensures { result ≡ isGap b }
+    ensures { result ≡ is_gap b }
 {
     if b == 32 {
         return true;
@@ -77,7 +77,7 @@ pub fn is_gap(b: u8) -> bool
 
 // How many bytes in front part items.
 pub fn gaps_in(s: &[u8]) -> usize
-    ensures { result ≡ gapsIn s.now }
+    ensures { result ≡ gaps_in s.now }
 {
     let mut i = 0;
     while i < s.len() {
@@ -91,7 +91,7 @@ pub fn gaps_in(s: &[u8]) -> usize
 
 // Whether the line has nothing more: its end, or a comment.
 pub fn ends_here(s: &[u8]) -> bool
-    ensures { result ≡ endsHere s.now }
+    ensures { result ≡ ends_here s.now }
 {
     if s.len() == 0 {
         return true;
@@ -101,7 +101,7 @@ pub fn ends_here(s: &[u8]) -> bool
 
 // Whether an item that stood before this is parted from what follows.
 pub fn parted_here(s: &[u8]) -> bool
-    ensures { result ≡ partedHere s.now }
+    ensures { result ≡ parted_here s.now }
 {
     if ends_here(s) {
         return true;
@@ -126,7 +126,7 @@ fn separates(b: u8) -> bool
 
 // The separator of a line of cells: the first before its comment. 0 where there is none.
 pub fn separator_of(line: &[u8]) -> u8
-    ensures { result ≡ separatorOf line.now }
+    ensures { result ≡ separator_of line.now }
 {
     let mut i = 0;
     while i < line.len() {
@@ -144,7 +144,7 @@ pub fn separator_of(line: &[u8]) -> u8
 
 // Whether a byte is a separator, and not the line's.
 fn is_other(b: u8, sep: u8) -> bool
-    ensures { result ≡ isOther b sep }
+    ensures { result ≡ is_other b sep }
 {
     if !separates(b) {
         return false;
@@ -154,7 +154,7 @@ fn is_other(b: u8, sep: u8) -> bool
 
 // Where in a gap a separator stands that is not the line's; the gap's length where none does.
 pub fn other_at(gap: &[u8], sep: u8) -> usize
-    ensures { result ≡ otherAt gap.now sep }
+    ensures { result ≡ other_at gap.now sep }
 {
     let mut at = 0;
     while at < gap.len() {
@@ -168,7 +168,7 @@ pub fn other_at(gap: &[u8], sep: u8) -> usize
 
 // Where in a gap a byte first stands; the gap's length where it does not.
 fn place_of(gap: &[u8], sep: u8) -> usize
-    ensures { result ≡ separatorPlace gap.now sep }
+    ensures { result ≡ separator_place gap.now sep }
 {
     let mut at = 0;
     while at < gap.len() {
@@ -182,7 +182,7 @@ fn place_of(gap: &[u8], sep: u8) -> usize
 
 // What is said of a place so many bytes on.
 fn said(answer: u8, used: usize) -> Found
-    ensures { result ≡ saidAt answer used }
+    ensures { result ≡ said_at answer used }
 {
     Found {
         answer,
@@ -193,7 +193,7 @@ fn said(answer: u8, used: usize) -> Found
 
 // A gap of a line of cells: 0, or what is wrong with it, and where. `due` says whether an item follows it: then it has exactly one separator.
 pub fn gap_said(gap: &[u8], sep: u8, due: bool) -> Found
-    ensures { result ≡ gapSaid gap.now sep due }
+    ensures { result ≡ gap_said gap.now sep due }
 {
     let other = other_at(gap, sep);
     if other < gap.len() {
@@ -218,7 +218,7 @@ pub fn gap_said(gap: &[u8], sep: u8, due: bool) -> Found
 
 // Whether a byte is a decimal digit.
 pub fn is_digit(b: u8) -> bool
-    ensures { result ≡ Rattle.text_scan.specs.Scan.isDigit b }
+    ensures { result ≡ Rattle.text_scan.specs.Scan.is_digit b }
 {
     if b < 48 {
         return false;
@@ -241,7 +241,7 @@ fn grown(value: u64, b: u8) -> u64
 
 // The decimal digits in front.
 fn digits_of(s: &[u8]) -> Digits
-    ensures { result ≡ digitsOf s.now }
+    ensures { result ≡ digits_of s.now }
 {
     let mut value: u64 = 0;
     let mut i = 0;
@@ -258,7 +258,7 @@ fn digits_of(s: &[u8]) -> Digits
 
 // A number of at most so much; `none` is answered where no digit stands, and `large` where it is larger.
 fn number_found(s: &[u8], most: u32, none: u8, large: u8) -> Found
-    ensures { result ≡ numberFound s.now most none large }
+    ensures { result ≡ number_found s.now most none large }
 {
     let run = digits_of(s);
     if run.used == 0 {
@@ -284,7 +284,7 @@ fn number_found(s: &[u8], most: u32, none: u8, large: u8) -> Found
 
 // Whether two decimal digits stand at a place.
 fn two_stand(s: &[u8], at: usize) -> bool
-    ensures { result ≡ Rattle.text_scan.specs.Scan.twoStand s.now at }
+    ensures { result ≡ Rattle.text_scan.specs.Scan.two_stand s.now at }
 {
     if 16 <= at {
         return false;
@@ -307,7 +307,7 @@ fn digit_of(b: u8) -> u32
 
 // The number of two decimal digits at a place; 0 where they do not stand there.
 fn two_at(s: &[u8], at: usize) -> u32
-    ensures { result ≡ Rattle.text_scan.specs.Scan.twoAt s.now at }
+    ensures { result ≡ Rattle.text_scan.specs.Scan.two_at s.now at }
 {
     if !two_stand(s, at) {
         return 0;
@@ -320,7 +320,7 @@ fn two_at(s: &[u8], at: usize) -> u32
 
 // Whether a date stands in front, as MM-DD hh:mm.
 fn date_stands(s: &[u8]) -> bool
-    ensures { result ≡ Rattle.text_scan.specs.Scan.dateStands s.now }
+    ensures { result ≡ Rattle.text_scan.specs.Scan.date_stands s.now }
 {
     if !two_stand(s, 0) {
         return false;
@@ -345,7 +345,7 @@ fn date_stands(s: &[u8]) -> bool
 
 // A time as MM-DD hh:mm within a year; the year is 0 where none is known.
 fn date_found(s: &[u8], year: u16) -> Found
-    ensures { result ≡ dateFound s.now year }
+    ensures { result ≡ date_found s.now year }
 {
     if !date_stands(s) {
         return Found {
@@ -386,7 +386,7 @@ fn date_found(s: &[u8], year: u16) -> Found
 
 // A time: minutes, or a date where a dash stands after two bytes.
 fn time_found(s: &[u8], year: u16) -> Found
-    ensures { result ≡ timeFound s.now year }
+    ensures { result ≡ time_found s.now year }
 {
     if wire::byte_at(s, 2) == 45 {
         return date_found(s, year);
@@ -396,7 +396,7 @@ fn time_found(s: &[u8], year: u16) -> Found
 
 // The number of a hexadecimal digit, of either case; 16 for any other byte.
 fn hex_value(b: u8) -> u8
-    ensures { result ≡ Rattle.text_scan.specs.Scan.hexValue b }
+    ensures { result ≡ Rattle.text_scan.specs.Scan.hex_value b }
 {
     if b < 48 {
         return 16;
@@ -421,7 +421,7 @@ fn hex_value(b: u8) -> u8
 
 // A byte in two hexadecimal digits.
 fn hex_found(s: &[u8]) -> Found
-    ensures { result ≡ hexFound s.now }
+    ensures { result ≡ hex_found s.now }
 {
     let high = hex_value(wire::byte_at(s, 0));
     let low = hex_value(wire::byte_at(s, 1));
@@ -448,7 +448,7 @@ fn hex_found(s: &[u8]) -> Found
 
 // An item of a sort.
 pub fn item_found(s: &[u8], item: u8, year: u16) -> Found
-    ensures { result ≡ itemFound s.now item year }
+    ensures { result ≡ item_found s.now item year }
 {
     if item == text_items::BYTE {
         return number_found(s, 255, NUMBER, AT_MOST_255);

@@ -1,14 +1,14 @@
 // An entry written as a line of text, without its newline.
 ghost use Rattle.std.specs.Prelude.{◌≡◌};
-ghost use Rattle.pen.specs.Pen.{spot, pushedAll};
-ghost use Rattle.text_parse.specs.Entry.{wordText};
-ghost use Rattle.text_write.specs.Line.{dateText, timeText, itemText, gapText, entryItems, line_of};
+ghost use Rattle.pen.specs.Pen.{spot, pushed_all};
+ghost use Rattle.text_parse.specs.Entry.{word_text};
+ghost use Rattle.text_write.specs.Line.{date_text, time_text, item_text, gap_text, entry_items, line_of};
 
 use text_items::Entry;
 
 // A minute of a year as MM-DD hh:mm.
 fn put_date(out: &mut [u8], at: usize, year: u16, time: u32) -> usize
-    ensures { spot out.new result ≡ pushedAll (spot out.old at) (dateText year time) }
+    ensures { spot out.new result ≡ pushed_all (spot out.old at) (date_text year time) }
 {
     let date = calendar::date_of(year, time);
     let month = pen::put_two(out, at, date.month);
@@ -22,7 +22,7 @@ fn put_date(out: &mut [u8], at: usize, year: u16, time: u32) -> usize
 
 // A time: a date where it lies within a known year, and minutes elsewhere.
 fn put_time(out: &mut [u8], at: usize, year: u16, time: u32) -> usize
-    ensures { spot out.new result ≡ pushedAll (spot out.old at) (timeText year time) }
+    ensures { spot out.new result ≡ pushed_all (spot out.old at) (time_text year time) }
 {
     if year == 0 {
         return pen::put_number(out, at, time);
@@ -35,7 +35,7 @@ fn put_time(out: &mut [u8], at: usize, year: u16, time: u32) -> usize
 
 // An item of a sort.
 fn put_item(out: &mut [u8], at: usize, item: u8, year: u16, value: u32) -> usize
-    ensures { spot out.new result ≡ pushedAll (spot out.old at) (itemText item year value) }
+    ensures { spot out.new result ≡ pushed_all (spot out.old at) (item_text item year value) }
 {
     if item == text_items::TIME {
         return put_time(out, at, year, value);
@@ -48,7 +48,7 @@ fn put_item(out: &mut [u8], at: usize, item: u8, year: u16, value: u32) -> usize
 
 // What parts an item from those before it: a space, or a bar between two.
 fn put_gap(out: &mut [u8], at: usize, kind: u8, k: usize) -> usize
-    ensures { spot out.new result ≡ pushedAll (spot out.old at) (gapText kind k) }
+    ensures { spot out.new result ≡ pushed_all (spot out.old at) (gap_text kind k) }
 {
     if text_items::bar_before(kind, k) {
         return pen::put_words(out, at, b" | ");
@@ -58,7 +58,7 @@ fn put_gap(out: &mut [u8], at: usize, kind: u8, k: usize) -> usize
 
 // The word of a sort of line.
 fn put_word(out: &mut [u8], at: usize, kind: u8) -> usize
-    ensures { spot out.new result ≡ pushedAll (spot out.old at) (wordText kind) }
+    ensures { spot out.new result ≡ pushed_all (spot out.old at) (word_text kind) }
 {
     if kind == text_items::SHEET {
         return pen::put_words(out, at, b"sheet");
@@ -77,7 +77,7 @@ fn put_word(out: &mut [u8], at: usize, kind: u8) -> usize
 
 // The items of an entry, each with what parts it from those before it.
 fn put_items(out: &mut [u8], at: usize, entry: Entry, year: u16) -> usize
-    ensures { spot out.new result ≡ pushedAll (spot out.old at) (entryItems entry year) }
+    ensures { spot out.new result ≡ pushed_all (spot out.old at) (entry_items entry year) }
 {
     let values = entry.values;
     let mut to = at;
@@ -102,7 +102,7 @@ fn put_items(out: &mut [u8], at: usize, entry: Entry, year: u16) -> usize
 // Writes an entry's line into a buffer from a place on, and answers the place after it; 4,096 bytes are room for every line. The year is that of the sheet
 // before it, 0 where there is none.
 pub fn write_line(out: &mut [u8], at: usize, entry: Entry, year: u16) -> usize
-    ensures { spot out.new result ≡ pushedAll (spot out.old at) (line_of entry year) }
+    ensures { spot out.new result ≡ pushed_all (spot out.old at) (line_of entry year) }
 {
     let word = put_word(out, at, entry.kind);
     put_items(out, word, entry, year)

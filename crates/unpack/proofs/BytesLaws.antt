@@ -6,7 +6,7 @@ use lib.ListN.{length, take, get_or, set, replicate}
 use lib.Seq.{set-append_seam, append_snoc, take-suc, take_all, length-take-le}
 use native.Mathlib.Omega.{arith}
 use Rattle.text_items.specs.Shape.{entry_of}
-use Rattle.unpack.specs.Unpack.{bytesEntry}
+use Rattle.unpack.specs.Unpack.{bytes_entry}
 
 module _ (s : List ℕ) where
   -- the numbers after k bytes
@@ -28,17 +28,17 @@ module _ (s : List ℕ) where
       ap (λ (j : ℕ). take j s ++ replicate m 0) next
 
   -- the bytes of a line that k bytes fill
-  entry-with : (l : List ℕ) (k : ℕ) → length l ≡ k → record { kind = 4; count = k; values = l ++ replicate (261 - k) 0 } ≡ entry_of 4 l
-  entry-with l k e = λ i. record { kind = 4; count = sym e i; values = l ++ replicate (261 - sym e i) 0 }
+  entry_with : (l : List ℕ) (k : ℕ) → length l ≡ k → record { kind = 4; count = k; values = l ++ replicate (261 - k) 0 } ≡ entry_of 4 l
+  entry_with l k e = λ i. record { kind = 4; count = sym e i; values = l ++ replicate (261 - sym e i) 0 }
 
   -- of 32 bytes or more the first 32 are the line, and of at most 32 all of them
-  pub full-line : 32 ≤ length s → record { kind = 4; count = 32; values = begun 32 } ≡ bytesEntry s
-  unfolding bytesEntry
-  full-line h = entry-with (take 32 s) 32 (length-take-le 32 s h)
+  pub full_line : 32 ≤ length s → record { kind = 4; count = 32; values = begun 32 } ≡ bytes_entry s
+  unfolding bytes_entry
+  full_line h = entry_with (take 32 s) 32 (length-take-le 32 s h)
 
-  pub part-line : length s ≤ 32 → record { kind = 4; count = length s; values = begun (length s) } ≡ bytesEntry s
-  unfolding bytesEntry
-  part-line h =
+  pub part_line : length s ≤ 32 → record { kind = 4; count = length s; values = begun (length s) } ≡ bytes_entry s
+  unfolding bytes_entry
+  part_line h =
       let whole : take 32 s ≡ s = take_all 32 s h in
       let same : take (length s) s ≡ take 32 s = take_all (length s) s (omega arith) ∙ sym whole in
-      (λ i. record { kind = 4; count = length s; values = same i ++ replicate (261 - length s) 0 }) ∙ entry-with (take 32 s) (length s) (ap length whole)
+      (λ i. record { kind = 4; count = length s; values = same i ++ replicate (261 - length s) 0 }) ∙ entry_with (take 32 s) (length s) (ap length whole)

@@ -8,11 +8,11 @@ use Rattle.unpack.proofs.year_after.Reads as year-after
 use Rattle.unpack.proofs.bytes_entry.Kinds as bytes-entry-kinds
 use Rattle.unpack.proofs.bytes_entry.Reads as bytes-entry
 
-pub unpack-one : OneOutcome unpack-kinds.ps unpack-kinds.r unpack.Post
-unpack-one κs a x y v w p q = (alike p q, refl)
+pub unpack_one : OneOutcome unpack-kinds.ps unpack-kinds.r unpack.Post
+unpack_one κs a x y v w p q = (alike p q, refl)
 
-pub year-after-one : OneOutcome year-after-kinds.ps year-after-kinds.r year-after.Post
-year-after-one κs a x y v w p q = (alike p q, refl)
+pub year_after_one : OneOutcome year-after-kinds.ps year-after-kinds.r year-after.Post
+year_after_one κs a x y v w p q = (alike p q, refl)
 
-pub bytes-entry-one : OneOutcome bytes-entry-kinds.ps bytes-entry-kinds.r bytes-entry.Post
-bytes-entry-one κs a x y v w p q = (alike p q, refl)
+pub bytes_entry_one : OneOutcome bytes-entry-kinds.ps bytes-entry-kinds.r bytes-entry.Post
+bytes_entry_one κs a x y v w p q = (alike p q, refl)

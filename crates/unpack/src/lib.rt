@@ -1,12 +1,12 @@
 // A record taken apart into the numbers of the line that stands for it.
 ghost use Rattle.std.specs.Prelude.{◌≡◌};
-ghost use Rattle.unpack.specs.Unpack.{kindIn, countIn, valueIn, unpackedOf, bytesEntry, yearAfter};
+ghost use Rattle.unpack.specs.Unpack.{kind_in, count_in, value_in, unpacked_of, bytes_entry, year_after};
 
 use text_items::Entry;
 
 // The sort of line that stands for some bytes: a record whose length is its own and right for its kind. No sort for any other bytes.
 fn kind_in(s: &[u8]) -> u8
-    ensures { result ≡ kindIn s.now }
+    ensures { result ≡ kind_in s.now }
 {
     if !wire::is_framed(s) {
         return text_items::BLANK;
@@ -42,7 +42,7 @@ fn kind_in(s: &[u8]) -> u8
 
 // How many numbers a line of a sort has for a record.
 fn count_in(s: &[u8], kind: u8) -> usize
-    ensures { result ≡ countIn s.now kind }
+    ensures { result ≡ count_in s.now kind }
 {
     if kind == text_items::STEPPED {
         return 5 + 4 * (wire::byte_at(s, 13) as usize);
@@ -52,7 +52,7 @@ fn count_in(s: &[u8], kind: u8) -> usize
 
 // The k-th number of a record that a line of a sort stands for.
 fn value_in(s: &[u8], kind: u8, k: usize) -> u32
-    ensures { result ≡ valueIn s.now kind k }
+    ensures { result ≡ value_in s.now kind k }
 {
     if 261 <= k {
         return 0;
@@ -77,7 +77,7 @@ fn value_in(s: &[u8], kind: u8, k: usize) -> u32
 
 // The entry of a record; a blank one where no line but bytes stands for it.
 pub fn unpack(s: &[u8]) -> Entry
-    ensures { result ≡ unpackedOf s.now }
+    ensures { result ≡ unpacked_of s.now }
 {
     let kind = kind_in(s);
     let mut values = [0u32; 261];
@@ -106,7 +106,7 @@ pub fn unpack(s: &[u8]) -> Entry
 
 // A line of the first 32 bytes of some, or of all where they are fewer.
 pub fn bytes_entry(s: &[u8]) -> Entry
-    ensures { result ≡ bytesEntry s.now }
+    ensures { result ≡ bytes_entry s.now }
 {
     let mut values = [0u32; 261];
     let mut k: usize = 0;
@@ -126,7 +126,7 @@ pub fn bytes_entry(s: &[u8]) -> Entry
 
 // The year that times are told in after a record: that of the first sheet that is in range, 0 before it.
 pub fn year_after(year: u16, s: &[u8]) -> u16
-    ensures { result ≡ yearAfter year s.now }
+    ensures { result ≡ year_after year s.now }
 {
     if year != 0 {
         return year;

@@ -10,23 +10,23 @@ use lib.Pow.{pow_pos, pow-add}
 use native.Mathlib.Omega.{arith}
 use native.Mathlib.Nat.{add-div_right, add-mul-div_left, div-div-eq-div-mul, mul_assoc}
 use borrow.Author.Tests.{eqb-false, eq-eqb, leb-true, leb-false}
-use Rattle.used_numbers.specs.Marks.{bit_of, withBit}
+use Rattle.used_numbers.specs.Marks.{bit_of, with_bit}
 
 -- what holds of each of the eight places holds below 8
-each-place : (P : ℕ → Type 0) → P 0 → P 1 → P 2 → P 3 → P 4 → P 5 → P 6 → P 7 → (k : ℕ) → k < 8 → P k
-each-place P a b c d e f g h zero l = a
-each-place P a b c d e f g h (suc zero) l = b
-each-place P a b c d e f g h (suc (suc zero)) l = c
-each-place P a b c d e f g h (suc (suc (suc zero))) l = d
-each-place P a b c d e f g h (suc (suc (suc (suc zero)))) l = e
-each-place P a b c d e f g h (suc (suc (suc (suc (suc zero))))) l = f
-each-place P a b c d e f g h (suc (suc (suc (suc (suc (suc zero)))))) l = g
-each-place P a b c d e f g h (suc (suc (suc (suc (suc (suc (suc zero))))))) l = h
-each-place P a b c d e f g h (suc (suc (suc (suc (suc (suc (suc (suc n)))))))) l = absurd (omega arith)
+each_place : (P : ℕ → Type 0) → P 0 → P 1 → P 2 → P 3 → P 4 → P 5 → P 6 → P 7 → (k : ℕ) → k < 8 → P k
+each_place P a b c d e f g h zero l = a
+each_place P a b c d e f g h (suc zero) l = b
+each_place P a b c d e f g h (suc (suc zero)) l = c
+each_place P a b c d e f g h (suc (suc (suc zero))) l = d
+each_place P a b c d e f g h (suc (suc (suc (suc zero)))) l = e
+each_place P a b c d e f g h (suc (suc (suc (suc (suc zero))))) l = f
+each_place P a b c d e f g h (suc (suc (suc (suc (suc (suc zero)))))) l = g
+each_place P a b c d e f g h (suc (suc (suc (suc (suc (suc (suc zero))))))) l = h
+each_place P a b c d e f g h (suc (suc (suc (suc (suc (suc (suc (suc n)))))))) l = absurd (omega arith)
 
 -- the table of eight has 2^k at k
-pub table-of-powers : (k : ℕ) → k < 8 → get_or (1 ∷ 2 ∷ 4 ∷ 8 ∷ 16 ∷ 32 ∷ 64 ∷ 128 ∷ []) k 0 ≡ 2 ^ k
-table-of-powers = each-place (λ k. get_or (1 ∷ 2 ∷ 4 ∷ 8 ∷ 16 ∷ 32 ∷ 64 ∷ 128 ∷ []) k 0 ≡ 2 ^ k) refl refl refl refl refl refl refl refl
+pub table_of_powers : (k : ℕ) → k < 8 → get_or (1 ∷ 2 ∷ 4 ∷ 8 ∷ 16 ∷ 32 ∷ 64 ∷ 128 ∷ []) k 0 ≡ 2 ^ k
+table_of_powers = each_place (λ k. get_or (1 ∷ 2 ∷ 4 ∷ 8 ∷ 16 ∷ 32 ∷ 64 ∷ 128 ∷ []) k 0 ≡ 2 ^ k) refl refl refl refl refl refl refl refl
 
 -- a bit that is not set can be added, and the sum is still a byte
 abbrev Room : ℕ → Type 0
@@ -34,7 +34,7 @@ Room k = (b : ℕ) → b < 256 → (b / 2 ^ k % 2 ≡ 1 → ⊥) → b + 2 ^ k <
 
 room : (k : ℕ) → k < 8 → Room k
 room =
-    each-place Room
+    each_place Room
     (λ b l e. omega arith)
     (λ b l e. omega arith)
     (λ b l e. omega arith)
@@ -45,8 +45,8 @@ room =
     (λ b l e. omega arith)
 
 -- a byte with a bit added that was not set is still a byte
-pub unset-bit-fits : (b k : ℕ) → b < 256 → k < 8 → bit_of b k ≡ false → b + 2 ^ k < 256
-unset-bit-fits b k l m e = room k m b l (eqb-false (b / 2 ^ k % 2) 1 e)
+pub unset_bit_fits : (b k : ℕ) → b < 256 → k < 8 → bit_of b k ≡ false → b + 2 ^ k < 256
+unset_bit_fits b k l m e = room k m b l (eqb-false (b / 2 ^ k % 2) 1 e)
 
 -- an unset bit that is added is set
 sets : (k b : ℕ) → (b / 2 ^ k % 2 ≡ 1 → ⊥) → (b + 2 ^ k) / 2 ^ k % 2 ≡ 1
@@ -82,26 +82,26 @@ stays k j b d e = go (leb k j) refl
         rw w (below (2 ^ j) (2 ^ (k - j - 1)) b (pow_pos j))
 
 -- with a bit set, that bit is set and every other is as before
-pub bit-same : (b k : ℕ) → bit_of (withBit b k) k ≡ true
-bit-same b k = go (bit_of b k) refl
+pub bit_same : (b k : ℕ) → bit_of (with_bit b k) k ≡ true
+bit_same b k = go (bit_of b k) refl
   where
     go : (t : Bool) → bit_of b k ≡ t → bit_of (cond t b (b + 2 ^ k)) k ≡ true
     go true e = e
     go false e = eq-eqb _ _ (sets k b (eqb-false (b / 2 ^ k % 2) 1 e))
 
-pub bit-other : (b k j : ℕ) → j ≢ k → bit_of (withBit b k) j ≡ bit_of b j
-bit-other b k j d = go (bit_of b k) refl
+pub bit_other : (b k j : ℕ) → j ≢ k → bit_of (with_bit b k) j ≡ bit_of b j
+bit_other b k j d = go (bit_of b k) refl
   where
     go : (t : Bool) → bit_of b k ≡ t → bit_of (cond t b (b + 2 ^ k)) j ≡ bit_of b j
     go true e = refl
     go false e = ap (λ x. eqb x 1) (stays k j b d (eqb-false (b / 2 ^ k % 2) 1 e))
 
 -- two different bits set in either order give the same byte
-pub bit-comm : (b k j : ℕ) → j ≢ k → withBit (withBit b k) j ≡ withBit (withBit b j) k
-bit-comm b k j d =
-    ap (λ t. cond t (withBit b k) (withBit b k + 2 ^ j)) (bit-other b k j d) ∙
+pub bit_comm : (b k j : ℕ) → j ≢ k → with_bit (with_bit b k) j ≡ with_bit (with_bit b j) k
+bit_comm b k j d =
+    ap (λ t. cond t (with_bit b k) (with_bit b k + 2 ^ j)) (bit_other b k j d) ∙
     go (bit_of b k) (bit_of b j) ∙
-    sym (ap (λ t. cond t (withBit b j) (withBit b j + 2 ^ k)) (bit-other b j k (λ e. d (sym e))))
+    sym (ap (λ t. cond t (with_bit b j) (with_bit b j + 2 ^ k)) (bit_other b j k (λ e. d (sym e))))
   where
     go : (s t : Bool) → cond t (cond s b (b + 2 ^ k)) (cond s b (b + 2 ^ k) + 2 ^ j) ≡ cond s (cond t b (b + 2 ^ j)) (cond t b (b + 2 ^ j) + 2 ^ k)
     go true true = refl

@@ -6,9 +6,9 @@ use Rattle.used_numbers.proofs.is_marked.Reads as is-marked
 use Rattle.used_numbers.proofs.mark.Kinds as mark-kinds
 use Rattle.used_numbers.proofs.mark.Reads as mark
 
-pub is-marked-one : OneOutcome is-marked-kinds.ps is-marked-kinds.r is-marked.Post
-is-marked-one κs a x y v w p q = (alike p q, refl)
+pub is_marked_one : OneOutcome is-marked-kinds.ps is-marked-kinds.r is-marked.Post
+is_marked_one κs a x y v w p q = (alike p q, refl)
 
 -- the map at exit is decided
-pub mark-one : OneOutcome mark-kinds.ps mark-kinds.r mark.Post
-mark-one κs a x y v w p q = (refl, λ i. (alike p q i, (tt, tt)))
+pub mark_one : OneOutcome mark-kinds.ps mark-kinds.r mark.Post
+mark_one κs a x y v w p q = (refl, λ i. (alike p q i, (tt, tt)))

@@ -2,22 +2,22 @@
 use Rattle.std.specs.Prelude.{ℕ, ◌+◌, ◌/◌, ◌%◌, ◌^◌, List, Bool, cond, get_or, set, eqb}
 
 -- how many bytes a map has
-abbrev pub mapSize : ℕ
-mapSize = 8192
+abbrev pub map_size : ℕ
+map_size = 8192
 
 abbrev pub bit_of : ℕ → ℕ → Bool
 bit_of byte k = eqb (byte / 2 ^ k % 2) 1
 
 -- the byte with bit k set
-abbrev pub withBit : ℕ → ℕ → ℕ
-withBit byte k = cond (bit_of byte k) byte (byte + 2 ^ k)
+abbrev pub with_bit : ℕ → ℕ → ℕ
+with_bit byte k = cond (bit_of byte k) byte (byte + 2 ^ k)
 
 unfoldable pub marked : List ℕ → ℕ → Bool
 marked m v = bit_of (get_or m (v / 8) 0) (v % 8)
 
 unfoldable pub marking : List ℕ → ℕ → List ℕ
-marking m v = set m (v / 8) (withBit (get_or m (v / 8) 0) (v % 8))
+marking m v = set m (v / 8) (with_bit (get_or m (v / 8) 0) (v % 8))
 
 -- event numbers are 1 to 65,535: 0 stands for no event, and marks nothing
-unfoldable pub markedWith : List ℕ → ℕ → List ℕ
-markedWith m v = cond (eqb v 0) m (marking m v)
+unfoldable pub marked_with : List ℕ → ℕ → List ℕ
+marked_with m v = cond (eqb v 0) m (marking m v)

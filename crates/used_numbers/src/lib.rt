@@ -1,6 +1,6 @@
 // The map of used event numbers: 8,192 lent bytes, of which number v is bit v mod 8 of byte v / 8.
 ghost use Rattle.std.specs.Prelude.{◌≡◌, ◌^◌, ◌<◌};
-ghost use Rattle.used_numbers.specs.Marks.{marked, markedWith};
+ghost use Rattle.used_numbers.specs.Marks.{marked, marked_with};
 
 const BITS: [u8; 8] = [1, 2, 4, 8, 16, 32, 64, 128];
 
@@ -23,7 +23,7 @@ pub fn is_marked(map: &[u8], number: u16) -> bool
 
 // Marks a number. Number 0 is no event's, and past the map's end there is nothing to mark: then the map stays as lent.
 pub fn mark(map: &mut [u8], number: u16)
-    ensures { map.new ≡ markedWith map.old number }
+    ensures { map.new ≡ marked_with map.old number }
 {
     let at = (number / 8) as usize;
     if number == 0 {

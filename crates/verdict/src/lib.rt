@@ -1,6 +1,6 @@
 // What judging a record comes to: a verdict, of a refused record and of an accepted event.
 ghost use Rattle.std.specs.Prelude.{◌≡◌};
-ghost use Rattle.verdict.specs.Verdict.{refusedWith, eventVerdict};
+ghost use Rattle.verdict.specs.Verdict.{refused_with, event_verdict};
 
 use annex::Figures;
 use fields::{Head, Sheet};
@@ -20,7 +20,7 @@ pub struct Verdict {
 
 // The verdict on a refused record.
 pub fn refuse(sheet: Sheet, answer: u8) -> Verdict
-    ensures { result ≡ refusedWith sheet answer }
+    ensures { result ≡ refused_with sheet answer }
 {
     Verdict {
         answer,
@@ -35,7 +35,7 @@ pub fn refuse(sheet: Sheet, answer: u8) -> Verdict
 
 // The verdict on an accepted event that ends at a minute, with these figures: a short one adds to no total.
 pub fn accept(sheet: Sheet, head: Head, end: u32, figures: Figures) -> Verdict
-    ensures { result ≡ eventVerdict sheet head end figures }
+    ensures { result ≡ event_verdict sheet head end figures }
 {
     if annex::is_short(head.t0, end) {
         return Verdict {

@@ -1,8 +1,8 @@
 // The walk over an event's steps: the test of all their times, and the figures that they fold to.
 ghost use Rattle.std.specs.Prelude.{◌≡◌, ◌+◌, ◌*◌, ◌≤◌, length};
 ghost use Rattle.annex.specs.Inside.{Timely};
-ghost use Rattle.fields.specs.Fields.{stepsFrom};
-ghost use Rattle.walk.specs.Walk.{setOut, walkedStep, walked};
+ghost use Rattle.fields.specs.Fields.{steps_from};
+ghost use Rattle.walk.specs.Walk.{set_out, walked_step, walked};
 
 use annex::{Course, Step};
 
@@ -16,7 +16,7 @@ pub struct Walk {
 impl Walk {
     // Before the first step.
     pub fn begin(t0: u32) -> Walk
-        ensures { result ≡ setOut t0 }
+        ensures { result ≡ set_out t0 }
     {
         Walk {
             late: false,
@@ -27,7 +27,7 @@ impl Walk {
     // One step more.
     pub fn with(self, step: Step) -> Walk
         requires { Timely self.course }
-        ensures { result ≡ walkedStep self step }
+        ensures { result ≡ walked_step self step }
     {
         let course = self.course;
         let late = self.late | limits::is_late(step.time, course.last);
@@ -47,7 +47,7 @@ impl Walk {
 // All the steps of a record of kind 3 that states so many, and has them.
 pub fn walk_of(s: &[u8], steps: u8, t0: u32) -> Walk
     requires { 14 + 16 * steps ≤ length s.now }
-    ensures { result ≡ walked (setOut t0) (stepsFrom s.now steps 14) }
+    ensures { result ≡ walked (set_out t0) (steps_from s.now steps 14) }
 {
     let mut w = Walk::begin(t0);
     let mut at: usize = 14;

@@ -20,39 +20,39 @@ use Rattle.wire.proofs.kind_of.Reads as kind-of
 use Rattle.wire.proofs.place_at.Kinds as place-at-kinds
 use Rattle.wire.proofs.place_at.Reads as place_at
 use Rattle.wire.proofs.stand_at.Kinds as stand-at-kinds
-use Rattle.wire.proofs.stand_at.Reads as stand-at
+use Rattle.wire.proofs.stand_at.Reads as stand_at
 use Rattle.wire.proofs.part.Reads as part
 
-pub byte-at-one : OneOutcome byte-at-kinds.ps byte-at-kinds.r byte_at.Post
-byte-at-one κs a x y v w p q = (alike p q, refl)
+pub byte_at_one : OneOutcome byte-at-kinds.ps byte-at-kinds.r byte_at.Post
+byte_at_one κs a x y v w p q = (alike p q, refl)
 
-pub u16-at-one : OneOutcome u16-at-kinds.ps u16-at-kinds.r u16-at.Post
-u16-at-one κs a x y v w p q = (alike p q, refl)
+pub u16_at_one : OneOutcome u16-at-kinds.ps u16-at-kinds.r u16-at.Post
+u16_at_one κs a x y v w p q = (alike p q, refl)
 
-pub u32-at-one : OneOutcome u32-at-kinds.ps u32-at-kinds.r u32-at.Post
-u32-at-one κs a x y v w p q = (alike p q, refl)
+pub u32_at_one : OneOutcome u32-at-kinds.ps u32-at-kinds.r u32-at.Post
+u32_at_one κs a x y v w p q = (alike p q, refl)
 
-pub counts-at-one : OneOutcome counts-at-kinds.ps counts-at-kinds.r counts-at.Post
-counts-at-one κs a x y v w p q = (alike p q, refl)
+pub counts_at_one : OneOutcome counts-at-kinds.ps counts-at-kinds.r counts-at.Post
+counts_at_one κs a x y v w p q = (alike p q, refl)
 
-pub u32-in-one : OneOutcome u32-in-kinds.ps u32-in-kinds.r u32-in.Post
-u32-in-one κs a x y v w p q = (alike p q, refl)
+pub u32_in_one : OneOutcome u32-in-kinds.ps u32-in-kinds.r u32-in.Post
+u32_in_one κs a x y v w p q = (alike p q, refl)
 
-pub counts-in-one : OneOutcome counts-in-kinds.ps counts-in-kinds.r counts-in.Post
-counts-in-one κs a x y v w p q = (alike p q, refl)
+pub counts_in_one : OneOutcome counts-in-kinds.ps counts-in-kinds.r counts-in.Post
+counts_in_one κs a x y v w p q = (alike p q, refl)
 
-pub is-framed-one : OneOutcome is-framed-kinds.ps is-framed-kinds.r is_framed.Post
-is-framed-one κs a x y v w p q = (alike p q, refl)
+pub is_framed_one : OneOutcome is-framed-kinds.ps is-framed-kinds.r is_framed.Post
+is_framed_one κs a x y v w p q = (alike p q, refl)
 
-pub kind-of-one : OneOutcome kind-of-kinds.ps kind-of-kinds.r kind-of.Post
-kind-of-one κs a x y v w p q = (alike p q, refl)
+pub kind_of_one : OneOutcome kind-of-kinds.ps kind-of-kinds.r kind-of.Post
+kind_of_one κs a x y v w p q = (alike p q, refl)
 
-pub place-at-one : OneOutcome place-at-kinds.ps place-at-kinds.r place_at.Post
-place-at-one κs a x y v w p q = (alike p q, refl)
+pub place_at_one : OneOutcome place-at-kinds.ps place-at-kinds.r place_at.Post
+place_at_one κs a x y v w p q = (alike p q, refl)
 
-pub stand-at-one : OneOutcome stand-at-kinds.ps stand-at-kinds.r stand-at.Post
-stand-at-one κs a x y v w p q = (alike p q, refl)
+pub stand_at_one : OneOutcome stand-at-kinds.ps stand-at-kinds.r stand_at.Post
+stand_at_one κs a x y v w p q = (alike p q, refl)
 
 -- the bytes of the part are decided; where they lie is the book's affair
-pub part-one : SeenAlike part.Post (λ κs x. x.now)
-part-one κs a x y s t = alike
+pub part_one : SeenAlike part.Post (λ κs x. x.now)
+part_one κs a x y s t = alike

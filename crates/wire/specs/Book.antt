@@ -6,8 +6,8 @@ use Rattle.wire.specs.declared.Place.{Place}
 use Rattle.wire.specs.declared.Place.TheVariants.{Record, End, Broken}
 use Rattle.wire.specs.declared.Stand.{Stand}
 
-unfoldable pub placeAt : List ℕ → ℕ → Place
-placeAt book at =
+unfoldable pub place_at : List ℕ → ℕ → Place
+place_at book at =
     cond (leb (length book) at) End
     (cond (ltb (length book - at) 4) Broken
     (cond (ltb (le16 book at) 4) Broken
@@ -15,10 +15,10 @@ placeAt book at =
     (Record at (at + le16 book at)))))
 
 -- 0 a record, 1 the end, 2 a broken length
-abbrev pub whichOf : Place → ℕ
-whichOf (Record start end) = 0
-whichOf End = 1
-whichOf Broken = 2
+abbrev pub which_of : Place → ℕ
+which_of (Record start end) = 0
+which_of End = 1
+which_of Broken = 2
 
 -- where the record starts and ends; where none stands, both are the offset itself
 abbrev pub start_of : Place → ℕ → ℕ
@@ -31,18 +31,18 @@ end_of (Record start end) at = end
 end_of End at = at
 end_of Broken at = at
 
-abbrev pub standOf : Place → ℕ → Stand
-standOf p at = record { which = whichOf p; start = start_of p at; end = end_of p at }
+abbrev pub stand_of : Place → ℕ → Stand
+stand_of p at = record { which = which_of p; start = start_of p at; end = end_of p at }
 
 abbrev pub part_of : List ℕ → ℕ → ℕ → List ℕ
 part_of book start end = take (end - start) (drop start book)
 
 -- what a reading at an offset finds: which case, the record's bytes, and the offset past it
-abbrev pub whichAt : List ℕ → ℕ → ℕ
-whichAt book at = whichOf (placeAt book at)
+abbrev pub which_at : List ℕ → ℕ → ℕ
+which_at book at = which_of (place_at book at)
 
-abbrev pub recordAt : List ℕ → ℕ → List ℕ
-recordAt book at = part_of book (start_of (placeAt book at) at) (end_of (placeAt book at) at)
+abbrev pub record_at : List ℕ → ℕ → List ℕ
+record_at book at = part_of book (start_of (place_at book at) at) (end_of (place_at book at) at)
 
 abbrev pub after_at : List ℕ → ℕ → ℕ
-after_at book at = end_of (placeAt book at) at
+after_at book at = end_of (place_at book at) at

@@ -11,8 +11,8 @@ abbrev pub le32 : List ℕ → ℕ → ℕ
 le32 s at = get_or s at 0 + get_or s (at + 1) 0 * 256 + get_or s (at + 2) 0 * 65536 + get_or s (at + 3) 0 * 16777216
 
 -- "three counts, one for each level: NN, VN, VVN"
-abbrev pub countsAt : List ℕ → ℕ → List ℕ
-countsAt s at = le32 s at ∷ le32 s (at + 4) ∷ le32 s (at + 8) ∷ []
+abbrev pub counts_at : List ℕ → ℕ → List ℕ
+counts_at s at = le32 s at ∷ le32 s (at + 4) ∷ le32 s (at + 8) ∷ []
 
 -- a number written in two and in four bytes
 abbrev pub le2 : ℕ → List ℕ

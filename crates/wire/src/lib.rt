@@ -1,8 +1,8 @@
 // What bytes say: little-endian numbers in a slice, a record's frame, and what stands at an offset of a book.
 ghost use Rattle.std.specs.Prelude.{◌≡◌, ◌+◌, ◌*◌, ◌<◌, ◌≤◌, length};
-ghost use Rattle.wire.specs.Numbers.{byte_at, le16, le32, countsAt};
+ghost use Rattle.wire.specs.Numbers.{byte_at, le16, le32, counts_at};
 ghost use Rattle.wire.specs.Frame.{framed, kind_of};
-ghost use Rattle.wire.specs.Book.{placeAt, standOf, part_of};
+ghost use Rattle.wire.specs.Book.{place_at, stand_of, part_of};
 
 // What stands at an offset of a book: a record's place, the end, or a broken length.
 #[derive(Drop)]
@@ -66,7 +66,7 @@ pub fn u32_at(s: &[u8], at: usize) -> u32
 
 // The three counts at an offset: NN, VN, VVN.
 pub fn counts_at(s: &[u8], at: usize) -> [u32; 3]
-    ensures { result ≡ countsAt s.now at }
+    ensures { result ≡ counts_at s.now at }
 {
     if s.len() <= at {
         return [0, 0, 0];
@@ -84,7 +84,7 @@ pub fn u32_in(s: &[u8], at: usize) -> u32
 
 pub fn counts_in(s: &[u8], at: usize) -> [u32; 3]
     requires { at + 12 ≤ length s.now }
-    ensures { result ≡ countsAt s.now at }
+    ensures { result ≡ counts_at s.now at }
 {
     [u32_in(s, at), u32_in(s, at + 4), u32_in(s, at + 8)]
 }
@@ -106,7 +106,7 @@ pub fn kind_of(s: &[u8]) -> u16
 
 // What stands at an offset of a book.
 pub fn place_at(book: &[u8], at: usize) -> Place
-    ensures { result ≡ placeAt book.now at }
+    ensures { result ≡ place_at book.now at }
 {
     let n = book.len();
     if n <= at {
@@ -132,7 +132,7 @@ pub fn place_at(book: &[u8], at: usize) -> Place
 
 // The same, as a loop over a book's records asks it.
 pub fn stand_at(book: &[u8], at: usize) -> Stand
-    ensures { result ≡ standOf (placeAt book.now at) at }
+    ensures { result ≡ stand_of (place_at book.now at) at }
 {
     match place_at(book, at) {
         Place::Record { start, end } => Stand {

@@ -4,16 +4,16 @@ use Prim.Native.Nat.{◌-◌}
 use mathlib.Core.Path.{sym}
 use native.Mathlib.Omega.{arith}
 use borrow.Author.Tests.{le-leb}
-use Rattle.annex.specs.Times.{isShort}
+use Rattle.annex.specs.Times.{is_short}
 use Rattle.annex.proofs.is_short.Statement.{statement}
 use Rattle.annex.proofs.is_short.Tie as tie
 
 returns : tie.Need-returns
-unfolding isShort
+unfolding is_short
 returns c = sym (le-leb (c.before.args.end - c.before.args.start) 3 (omega arith))
 
 returns-2 : tie.Need-returns-2
-unfolding isShort
+unfolding is_short
 returns-2 c = search rules
 
 pub is-short-spec : {M : Type 1} → statement M

@@ -6,15 +6,15 @@ use mathlib.Core.List.{List}
 use lib.ListN.{length, set, length-map}
 use native.Mathlib.Omega.{arith}
 use Rattle.wire.specs.Book.{part_of}
-use Rattle.record.specs.Verdict.{verdictOf}
+use Rattle.record.specs.Verdict.{verdict_of}
 use Rattle.ledger.specs.Ledger.{added}
 use Rattle.ledger.specs.Inside.{Fits}
-use Rattle.ledger.proofs.LedgerLaws.{sound-spare, sound-short, fair-small}
-use Rattle.ledger.proofs.SoundLaws.{verdict-fits}
+use Rattle.ledger.proofs.LedgerLaws.{sound_spare, sound_short, fair_small}
+use Rattle.ledger.proofs.SoundLaws.{verdict_fits}
 use Rattle.records.proofs.TakeLaws.{one_at_most}
-use Rattle.records.proofs.RunLaws.{going-nearer, going-room}
-use Rattle.book.specs.Book.{starting, takeRecord}
-use Rattle.book.proofs.RunLaws.{Going, refusedIn, going-begins, going_on, going-ends}
+use Rattle.records.proofs.RunLaws.{going_nearer, going_room}
+use Rattle.book.specs.Book.{starting, take_record}
+use Rattle.book.proofs.RunLaws.{Going, refused_in, going_begins, going_on_lem, going_ends}
 use borrow.Author.Rules.{rules}
 use Rattle.book.proofs.take_records.Statement.{statement}
 use Rattle.book.proofs.take_records.Tie as tie
@@ -43,16 +43,16 @@ judging c = c.before.before.before.before.before.before.before.before.before
 judged-here :
     (c : tie.After-judge invariant-loop decreases-loop) →
     let t = (turn c).loop in
-    c.judge.result ≡ verdictOf (part_of (start (turn c)).args.book.now t.stand.start t.stand.end) t.l.sheet t.map t.l.events
+    c.judge.result ≡ verdict_of (part_of (start (turn c)).args.book.now t.stand.start t.stand.end) t.l.sheet t.map t.l.events
 judged-here c =
     let t = (turn c).loop in
-    c.judge.ensures ∙ ap (λ (s : List ℕ). verdictOf s t.l.sheet t.map t.l.events) c.before.before.part.ensures
+    c.judge.ensures ∙ ap (λ (s : List ℕ). verdict_of s t.l.sheet t.map t.l.events) c.before.before.part.ensures
 
 -- the verdict that was given fits the ledger at hand
 fits-here : (c : tie.After-judge invariant-loop decreases-loop) → Fits (turn c).loop.l c.judge.result
 fits-here c =
     let t = (turn c).loop in
-    subst⁻¹ (Fits t.l) (judged-here c) (verdict-fits t.l t.map _ t.inv.sound)
+    subst⁻¹ (Fits t.l) (judged-here c) (verdict_fits t.l t.map _ t.inv.sound)
 
 -- ---- the needs
 
@@ -60,31 +60,31 @@ loop-holds : tie.Need-loop-init invariant-loop decreases-loop
 loop-holds c =
     let first = c.before.before.before in
     let a = first.args in
-    going-begins a.ledger a.map.now a.book.now c.stand-at.result c.stand-at.ensures first.requires.0 first.requires.1
+    going_begins a.ledger a.map.now a.book.now c.stand_at.result c.stand_at.ensures first.requires.0 first.requires.1
     (simp length-map at first.well-formed.0.1.1.1.1.1.0.1.0.1)
 
 element-copy-out-grown : tie.Need-element-copy-out-grown invariant-loop decreases-loop
 element-copy-out-grown c =
     let j = c.before.before.before.before.before.before.before in
-    omega (arith, (fits-here j).fair.row, (turn j).loop.invariant.rows-there)
+    omega (arith, (fits-here j).fair.row, (turn j).loop.invariant.rows_there)
 
 grown-requires : tie.Need-grown-requires invariant-loop decreases-loop
 grown-requires c κs =
     let j = c.before.before.before.before.before.before.before.before in
     let f = fits-here j in
-    (sound-spare (turn j).loop.l f.sound j.judge.result.row, fair-small _ _ _ f.fair)
+    (sound_spare (turn j).loop.l f.sound j.judge.result.row, fair_small _ _ _ f.fair)
 
 mul-t27 : tie.Need-overflow-mul-t27 invariant-loop decreases-loop
 mul-t27 c = omega (arith, (fits-here (judging c)).fair.row)
 
 element-set-from-l : tie.Need-element-set-from-l invariant-loop decreases-loop
-element-set-from-l c = omega (arith, (fits-here (judging c)).fair.row, (turn (judging c)).loop.inv.rows-there)
+element-set-from-l c = omega (arith, (fits-here (judging c)).fair.row, (turn (judging c)).loop.inv.rows_there)
 
 add-l : tie.Need-overflow-add-l invariant-loop decreases-loop
 add-l c = omega (arith, (fits-here (judging c.before)).fair.room)
 
 add-l-2 : tie.Need-overflow-add-l-2 invariant-loop decreases-loop
-add-l-2 c = let f = fits-here (judging c.before.before) in omega (arith, f.fair.room, f.fair.short, sound-short _ f.sound)
+add-l-2 c = let f = fits-here (judging c.before.before) in omega (arith, f.fair.room, f.fair.short, sound_short _ f.sound)
 
 add-refused : tie.Need-overflow-add-refused invariant-loop decreases-loop
 add-refused c =
@@ -93,7 +93,7 @@ add-refused c =
     let g = t.loop in
     let a = (start t).args in
     let n : c.one-if-refused.result ≤ 1 = subst⁻¹ (λ (x : ℕ). x ≤ 1) c.one-if-refused.ensures (one_at_most j.judge.result.answer) in
-    let room = going-room takeRecord refusedIn (starting a.ledger a.map.now) a.book.now _ g.stand g.inv.on j.before.before.before.before.if1.taken in
+    let room = going_room take_record refused_in (starting a.ledger a.map.now) a.book.now _ g.stand g.inv.on j.before.before.before.before.if1.taken in
     omega (arith, room, (start t).good.1.1.0)
 
 loop-less : tie.Need-loop-smaller invariant-loop decreases-loop
@@ -101,7 +101,7 @@ loop-less c =
     let j = judging c.before.before.before.before in
     let g = (turn j).loop in
     let a = (start (turn j)).args in
-    going-nearer takeRecord refusedIn (starting a.ledger a.map.now) a.book.now _ g.stand g.inv.on
+    going_nearer take_record refused_in (starting a.ledger a.map.now) a.book.now _ g.stand g.inv.on
     c.stand-at2.result c.stand-at2.ensures j.before.before.before.before.if1.taken
 
 loop-again : tie.Need-loop-preserved invariant-loop decreases-loop
@@ -116,7 +116,7 @@ loop-again c =
     (λ i. record { sheet = v.sheet; events = g.l.events + v.events; short = g.l.short + v.short; rows = set g.l.rows v.row (sym grown.grown.ensures i) })
     (sym grown.before.before.before.before.before.before.before.mark.ensures)
     (ap (λ (n : ℕ). g.refused + n) (sym c.before.one-if-refused.ensures))
-    (going_on a.ledger a.map.now a.book.now g.l g.map g.refused g.stand g.inv v (judged-here j)
+    (going_on_lem a.ledger a.map.now a.book.now g.l g.map g.refused g.stand g.inv v (judged-here j)
     c.stand-at2.result c.stand-at2.ensures j.before.before.before.before.if1.taken)
 
 same_length : tie.Need-same-length invariant-loop decreases-loop
@@ -126,7 +126,7 @@ returns : tie.Need-returns invariant-loop decreases-loop
 returns c =
     let a = (start c.before.before).args in
     let g = c.before.before.loop in
-    going-ends a.ledger a.map.now a.book.now g.l g.map g.refused g.stand g.invariant c.if1.false
+    going_ends a.ledger a.map.now a.book.now g.l g.map g.refused g.stand g.invariant c.if1.false
 
 pub take-records-spec : {M : Type 1} → statement M
 take-records-spec =

@@ -39,14 +39,14 @@ use denote.Triple.Statement.{Contract, Triple}
 use denote.Triple.Call.{calls_at}
 use denote.Triple.Clauses.{ensured, lasts}
 use denote.Triple.Table.{entered, cited}
-use Rattle.wire.specs.Book.{whichAt, after_at}
-use Rattle.wire.specs.Cut.{recordsOf, stopFrom, endsBy}
+use Rattle.wire.specs.Book.{which_at, after_at}
+use Rattle.wire.specs.Cut.{records_of, stop_from, ends_by}
 use Rattle.reader.specs.declared.Reader.{Reader}
 use Rattle.reader.specs.declared.Answer.{Answer}
 use Rattle.book_cases.specs.declared.Counted.{Counted}
-use Rattle.book_cases.proofs.CountLaws.{Come, come-start, come-on, come-nearer, come-end, unsame}
-use Rattle.reader.proofs.Asking.{Answered, reader-is}
-use Rattle.book_cases.proofs.Asking.{CountedR, counted-mach, counted-makes, ReaderR, AnswerR, Next, rd, canon, canon-is, Own, reader-told, reader-typed, answer-told, answer_typed, to-next, goes-next, next-said}
+use Rattle.book_cases.proofs.CountLaws.{Come, come_start, come_on, come_nearer, come_end, unsame}
+use Rattle.reader.proofs.Asking.{Answered, reader_is}
+use Rattle.book_cases.proofs.Asking.{CountedR, counted_mach, counted_makes, ReaderR, AnswerR, Next, rd, canon, canon_is, Own, reader_told, reader_typed, answer_told, answer_typed, to_next, goes_next, next_said}
 use Rattle.book_cases.specs.contracts.Counted as TCounted
 use Rattle.book_cases.proofs.Counted.TheLaws as TCounted'
 use Rattle.reader.proofs.Reader.TheLaws as T'
@@ -98,13 +98,13 @@ module _ {M : Type 1} {𝓤 : Ura M} (𝓛 : Logic 𝓤) (mem : Memory → SProp
   abbrev Post : Val → SProp 𝓤
   Post = (walk_of 𝓛 counts.ended stayed (counts.clauses 𝓛 mem run)).post (((κ, tt), (q, tt), tt, (s, tt), at), tt)
 
-  exits : (r : Counted) → (r.count ≡ length (recordsOf xs)) × (r.at ≡ stopFrom xs 0) × (r.which ≡ endsBy xs) → Is CountedR r (counted-mach r ∷ []) → ent 𝓤 (⋆ 𝓛 (‵ (flft κ q) ∷ ‵ (Own κ s) ∷ [])) (Post (counted-mach r))
+  exits : (r : Counted) → (r.count ≡ length (records_of xs)) × (r.at ≡ stop_from xs 0) × (r.which ≡ ends_by xs) → Is CountedR r (counted_mach r ∷ []) → ent 𝓤 (⋆ 𝓛 (‵ (flft κ q) ∷ ‵ (Own κ s) ∷ [])) (Post (counted_mach r))
   exits r e g =
       qed 𝓛 (‵ (flft κ q) ∷ ‵ (Own κ s) ∷ []) ∵
-      suffices ! _ (ends_at 𝓛 counts.ended stayed (counts.clauses 𝓛 mem run) (((κ, tt), (q, tt), tt, (s, tt), at), tt) (counted-mach r) r (tt, tt) (tt, tt)) $
+      suffices ! _ (ends_at 𝓛 counts.ended stayed (counts.clauses 𝓛 mem run) (((κ, tt), (q, tt), tt, (s, tt), at), tt) (counted_mach r) r (tt, tt) (tt, tt)) $
       says ! e $
       nothing ! $ move ! (1 ∷ 0 ∷ []) $ join ! $ frame ! $ nothing ! $ move ! (1 ∷ 0 ∷ []) $ fjoin ! $ frame ! $
-      owned ! CountedR (Is CountedR) (counted-makes 𝓛) r _ g $ done !
+      owned ! CountedR (Is CountedR) (counted_makes 𝓛) r _ g $ done !
 
   -- what each callee's triple binds outside, that the caller has what it asks, and what is known of its result
   abbrev to-new : (New 𝓛 mem run).Ghost
@@ -170,25 +170,25 @@ module _ {M : Type 1} {𝓤 : Ura M} (𝓛 : Logic 𝓤) (mem : Memory → SProp
         assigns ! (of_opd ! (load ! (from ! (fld ! refl (stop !))) (look_in ! 14 (sub ! 0 refl (whole !))))) (from ! (stop !)) (init ! 10 refl (tt, wt.1.0)) $
         assigns ! (bin ! (load ! (from ! (stop !)) (look ! 10 refl)) (lit ! tt) tt) (from ! (stop !)) (init ! 8 refl (tt, tt)) $
         first ! $ branches ! (load ! (from ! (stop !)) (look ! 8 refl))
-        (λ same. let z = eqb→eq (whichAt xs t.0) 0 same in
+        (λ same. let z = eqb→eq (which_at xs t.0) 0 same in
         skips ! $ exec ! C Λ E asks (any_q (Turned t)) $
         assigns ! (of_opd ! (load ! (from ! (fld ! refl (stop !))) (look_in ! 14 (sub ! 2 refl (whole !))))) (from ! (stop !)) (init ! 6 refl (tt, wt.1.1.1.0)) $
         -- the next answer
         move ! (1 ∷ []) $ use1 𝓛 (‵ (Own κ s) ⊛ ‵ (Own κ s)) ((shr_slice_copy 𝓛 (named 0) κ u8).twice s (v ∷ [])) $ split ! $ move ! (2 ∷ 0 ∷ []) $
-        use2 𝓛 (raw ((Next 𝓛 mem run).pre (to-next 𝓛 mem run κ q s (after_at xs t.0)))) (goes-next 𝓛 mem run κ q s (after_at xs t.0) wt.1.1.1.0.1.0.fits) $
-        calls_at ! fm (Next 𝓛 mem run) known_next (to-next 𝓛 mem run κ q s (after_at xs t.0)) (and_then ! (load ! (from ! (stop !)) (look ! 6 refl)) (no_more !)) (λ w.
+        use2 𝓛 (raw ((Next 𝓛 mem run).pre (to_next 𝓛 mem run κ q s (after_at xs t.0)))) (goes_next 𝓛 mem run κ q s (after_at xs t.0) wt.1.1.1.0.1.0.fits) $
+        calls_at ! fm (Next 𝓛 mem run) known_next (to_next 𝓛 mem run κ q s (after_at xs t.0)) (and_then ! (load ! (from ! (stop !)) (look ! 6 refl)) (no_more !)) (λ w.
         use1 𝓛 (later (some (λ (t' : Answer). ((‵ (flft κ q) ⊛ ‵ ftrue) ⊛ ‵ ((AnswerR (κ, tt)).own_val t' (w ∷ []))) ⊛ raw (ensured 𝓛 next.ended (next.clauses 𝓛 mem run) (κ, tt) (rd s (after_at xs t.0), tt) tt t')))) (id⊢ 𝓤 _) $
         await ! tt $ pick ! (λ t'.
-        split ! $ move ! (1 ∷ []) $ use1 𝓛 (raw (fact 𝓤 (Answered (rd s (after_at xs t.0)) t'))) (next-said 𝓛 mem run κ q s (after_at xs t.0) t') $
+        split ! $ move ! (1 ∷ []) $ use1 𝓛 (raw (fact 𝓤 (Answered (rd s (after_at xs t.0)) t'))) (next_said 𝓛 mem run κ q s (after_at xs t.0) t') $
         heard ! (Answered (rd s (after_at xs t.0)) t') (λ e. split ! $ move ! (1 ∷ []) $
-        rewrite ! 0 (λ (t' : Answer). ‵ ((AnswerR (κ, tt)).own_val t' (w ∷ []))) (canon-is s (after_at xs t.0) t' e) refl $
+        rewrite ! 0 (λ (t' : Answer). ‵ ((AnswerR (κ, tt)).own_val t' (w ∷ []))) (canon_is s (after_at xs t.0) t' e) refl $
         facts ! (AnswerR (κ, tt)) (Is (AnswerR (κ, tt))) (shows 𝓛 (AnswerR (κ, tt))) (canon s (after_at xs t.0) t'.bytes) (w ∷ []) (λ is.
         land ! (from ! (stop !)) (store ! 14 refl (answer_typed 𝓛 κ s (after_at xs t.0) t'.bytes w is)) $
-        rewrite ! 14 (λ (u : Val). ‵ (fat full_share (An'.mir erased) l₃ 0 u)) (ap only (answer-told κ s (after_at xs t.0) t'.bytes w is)) refl $ split ! $
+        rewrite ! 14 (λ (u : Val). ‵ (fat full_share (An'.mir erased) l₃ 0 u)) (ap only (answer_told κ s (after_at xs t.0) t'.bytes w is)) refl $ split ! $
         move ! (1 ∷ []) $ drop ! $
-        let u = onward t z t'.bytes (subst (Is (AnswerR (κ, tt)) (canon s (after_at xs t.0) t'.bytes)) (answer-told κ s (after_at xs t.0) t'.bytes w is) is) in
+        let u = onward t z t'.bytes (subst (Is (AnswerR (κ, tt)) (canon s (after_at xs t.0) t'.bytes)) (answer_told κ s (after_at xs t.0) t'.bytes w is) is) in
         assigns_last ! (bin ! (load ! (from ! (stop !)) (look ! 16 refl)) (lit ! tt) (record { fits = fits u })) (from ! (stop !)) (store ! 16 refl (tt, record { fits = fits u })) $
-        forget ! 6 refl $ forget ! 8 refl $ forget ! 10 refl $ again ! Nearer At t u (come-nearer xs t.0 z))))))
+        forget ! 6 refl $ forget ! 8 refl $ forget ! 10 refl $ again ! Nearer At t u (come_nearer xs t.0 z))))))
         (λ other. jumps ! $ exec ! C Λ E body.t-5 (at_ret E Post) $
         assigns ! (of_opd ! (load ! (from ! (fld ! refl (fld ! refl (stop !)))) (look_in ! 14 (sub ! 1 refl (sub ! 2 refl (whole !)))))) (from ! (stop !)) (init ! 4 refl (tt, wt.1.1.1.0.1.0)) $
         assigns ! (of_opd ! (load ! (from ! (fld ! refl (stop !))) (look_in ! 14 (sub ! 0 refl (whole !))))) (from ! (stop !)) (init ! 2 refl (tt, wt.1.0)) $
@@ -198,13 +198,13 @@ module _ {M : Type 1} {𝓤 : Ura M} (𝓛 : Logic 𝓤) (mem : Memory → SProp
         move ! (20 ∷ 21 ∷ []) $ free1 ! $ move ! (18 ∷ 19 ∷ []) $ free1 ! $ move ! (16 ∷ 17 ∷ []) $ free1 ! $ move ! (14 ∷ 15 ∷ []) $ free1 ! $ move ! (12 ∷ 13 ∷ []) $
         free1 ! $ move ! (10 ∷ 11 ∷ []) $ free1 ! $ move ! (8 ∷ 9 ∷ []) $ free1 ! $ move ! (6 ∷ 7 ∷ []) $ free1 ! $ move ! (4 ∷ 5 ∷ []) $ free1 ! $
         move ! (2 ∷ 3 ∷ []) $ free1 ! $ free0 ! $
-        by ! (exits (tot t) (come-end xs t.1.0 t.0 t.1.1.1.0 (unsame (whichAt xs t.0) other)) (LL.owes TCounted.the_type TCounted'.the_laws (tot t) ((refl, fits t), ((refl, wt.1.1.1.0.1.0.fits), ((refl, wt.1.0.fits), tt))))))
+        by ! (exits (tot t) (come_end xs t.1.0 t.0 t.1.1.1.0 (unsame (which_at xs t.0) other)) (LL.owes TCounted.the_type TCounted'.the_laws (tot t) ((refl, fits t), ((refl, wt.1.1.1.0.1.0.fits), ((refl, wt.1.0.fits), tt))))))
       where
         tot : Upto → Counted
-        tot u = record { count = u.1.0; at = after_at xs u.0; which = whichAt xs u.0 }
+        tot u = record { count = u.1.0; at = after_at xs u.0; which = which_at xs u.0 }
 
-        onward : (u : Upto) → whichAt xs u.0 ≡ 0 → (x : Bor (List ℕ)) → Is (AnswerR (κ, tt)) (canon s (after_at xs u.0) x) (An'.lowered (canon s (after_at xs u.0) x) ∷ []) → Upto
-        onward u z x g = (after_at xs u.0, (u.1.0 + 1, (x, (come-on xs u.1.0 u.0 u.1.1.1.0 z, g))))
+        onward : (u : Upto) → which_at xs u.0 ≡ 0 → (x : Bor (List ℕ)) → Is (AnswerR (κ, tt)) (canon s (after_at xs u.0) x) (An'.lowered (canon s (after_at xs u.0) x) ∷ []) → Upto
+        onward u z x g = (after_at xs u.0, (u.1.0 + 1, (x, (come_on xs u.1.0 u.0 u.1.1.1.0 z, g))))
 
   walk : (𝓣 : Tables 𝓤 H) → FmC 𝓤 H 𝓛.laws 𝓣.C → Triple 𝓤 (𝓣.C #reader·Reader·new) (New 𝓛 mem run) → Triple 𝓤 (𝓣.C #reader·Reader·next) (Next 𝓛 mem run)
       → ent 𝓤 (on_entry 𝓛 counts.signature (κ, tt) (q, tt) (s, tt) at) (WpFn 𝓤 H 𝓣.C 𝓣.Λ code.function (v ∷ []) Post)
@@ -223,26 +223,26 @@ module _ {M : Type 1} {𝓤 : Ura M} (𝓛 : Logic 𝓤) (mem : Memory → SProp
       await ! tt $ pick ! (λ r.
       split ! $ move ! (1 ∷ []) $ use1 𝓛 (raw (fact 𝓤 ((r.book ≡ s) × (r.at ≡ 0)))) (new-said r) $ heard ! ((r.book ≡ s) × (r.at ≡ 0)) (λ e₁. split ! $
       move ! (1 ∷ []) $
-      rewrite ! 0 (λ (r' : Reader). ‵ ((ReaderR (κ, tt)).own_val r' (w₁ ∷ []))) (reader-is s r 0 e₁) refl $
+      rewrite ! 0 (λ (r' : Reader). ‵ ((ReaderR (κ, tt)).own_val r' (w₁ ∷ []))) (reader_is s r 0 e₁) refl $
       facts ! (ReaderR (κ, tt)) (Is (ReaderR (κ, tt))) (shows 𝓛 (ReaderR (κ, tt))) (rd s 0) (w₁ ∷ []) (λ is₁.
-      land ! (from ! (stop !)) (init ! 12 refl (reader-typed 𝓛 κ s 0 w₁ is₁)) $
-      rewrite ! 12 (λ (u : Val). ‵ (fat full_share (T'.mir erased) l₄ 0 u)) (ap only (reader-told κ s 0 w₁ is₁)) refl $ split ! $ move ! (1 ∷ []) $ drop ! $
+      land ! (from ! (stop !)) (init ! 12 refl (reader_typed 𝓛 κ s 0 w₁ is₁)) $
+      rewrite ! 12 (λ (u : Val). ‵ (fat full_share (T'.mir erased) l₄ 0 u)) (ap only (reader_told κ s 0 w₁ is₁)) refl $ split ! $ move ! (1 ∷ []) $ drop ! $
       -- the first answer
       move ! (1 ∷ []) $ use1 𝓛 (‵ (Own κ s) ⊛ ‵ (Own κ s)) ((shr_slice_copy 𝓛 (named 0) κ u8).twice s (v ∷ [])) $ split ! $ move ! (2 ∷ 0 ∷ []) $
-      use2 𝓛 (raw ((Next 𝓛 mem run).pre (to-next 𝓛 mem run κ q s (0)))) (goes-next 𝓛 mem run κ q s (0) (lit< tt)) $
-      calls_at ! fm (Next 𝓛 mem run) known_next (to-next 𝓛 mem run κ q s (0)) (and_then ! (load ! (from ! (stop !)) (look ! 12 refl)) (no_more !)) (λ w₂.
+      use2 𝓛 (raw ((Next 𝓛 mem run).pre (to_next 𝓛 mem run κ q s (0)))) (goes_next 𝓛 mem run κ q s (0) (lit< tt)) $
+      calls_at ! fm (Next 𝓛 mem run) known_next (to_next 𝓛 mem run κ q s (0)) (and_then ! (load ! (from ! (stop !)) (look ! 12 refl)) (no_more !)) (λ w₂.
       use1 𝓛 (later (some (λ (t' : Answer). ((‵ (flft κ q) ⊛ ‵ ftrue) ⊛ ‵ ((AnswerR (κ, tt)).own_val t' (w₂ ∷ []))) ⊛ raw (ensured 𝓛 next.ended (next.clauses 𝓛 mem run) (κ, tt) (rd s (0), tt) tt t')))) (id⊢ 𝓤 _) $
       await ! tt $ pick ! (λ t₂.
-      split ! $ move ! (1 ∷ []) $ use1 𝓛 (raw (fact 𝓤 (Answered (rd s (0)) t₂))) (next-said 𝓛 mem run κ q s (0) t₂) $
+      split ! $ move ! (1 ∷ []) $ use1 𝓛 (raw (fact 𝓤 (Answered (rd s (0)) t₂))) (next_said 𝓛 mem run κ q s (0) t₂) $
       heard ! (Answered (rd s (0)) t₂) (λ e₂. split ! $ move ! (1 ∷ []) $
-      rewrite ! 0 (λ (t' : Answer). ‵ ((AnswerR (κ, tt)).own_val t' (w₂ ∷ []))) (canon-is s (0) t₂ e₂) refl $
+      rewrite ! 0 (λ (t' : Answer). ‵ ((AnswerR (κ, tt)).own_val t' (w₂ ∷ []))) (canon_is s (0) t₂ e₂) refl $
       facts ! (AnswerR (κ, tt)) (Is (AnswerR (κ, tt))) (shows 𝓛 (AnswerR (κ, tt))) (canon s (0) t₂.bytes) (w₂ ∷ []) (λ is₂.
       land ! (from ! (stop !)) (init ! 14 refl (answer_typed 𝓛 κ s (0) t₂.bytes w₂ is₂)) $
-      rewrite ! 14 (λ (u : Val). ‵ (fat full_share (An'.mir erased) l₃ 0 u)) (ap only (answer-told κ s (0) t₂.bytes w₂ is₂)) refl $ split ! $ move ! (1 ∷ []) $
+      rewrite ! 14 (λ (u : Val). ‵ (fat full_share (An'.mir erased) l₃ 0 u)) (ap only (answer_told κ s (0) t₂.bytes w₂ is₂)) refl $ split ! $ move ! (1 ∷ []) $
       drop ! $
       forget ! 12 refl $
       first ! $ blocks ! $ loops ! 𝓣 Nearer Nearer-wf (At 𝓣 fm known_next l₀ l₁ l₂ l₃ l₄ l₅ l₆ l₇ l₈ l₉) (turns 𝓣 fm known_next l₀ l₁ l₂ l₃ l₄ l₅ l₆ l₇ l₈ l₉)
-      (0, (0, (t₂.bytes, (come-start xs, subst (Is (AnswerR (κ, tt)) (canon s 0 t₂.bytes)) (answer-told κ s 0 t₂.bytes w₂ is₂) is₂))))))))))))))))))))))
+      (0, (0, (t₂.bytes, (come_start xs, subst (Is (AnswerR (κ, tt)) (canon s 0 t₂.bytes)) (answer_told κ s 0 t₂.bytes w₂ is₂) is₂))))))))))))))))))))))
 
 module _ {M : Type 1} {𝓤 : Ura M} (𝓛 : Logic 𝓤) (mem : Memory → SProp 𝓤) (run : Routine → Fun 𝓤) where
   open 𝓛 use {H}

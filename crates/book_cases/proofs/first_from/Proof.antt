@@ -34,12 +34,12 @@ use denote.Triple.Statement.{Contract, Triple}
 use denote.Triple.Call.{calls_at}
 use denote.Triple.Clauses.{ensured, lasts}
 use denote.Triple.Table.{entered, cited}
-use Rattle.wire.specs.Book.{whichAt, recordAt, after_at}
+use Rattle.wire.specs.Book.{which_at, record_at, after_at}
 use Rattle.reader.specs.declared.Reader.{Reader}
 use Rattle.reader.specs.declared.Answer.{Answer}
 use Rattle.book_cases.specs.declared.Asked.{Asked}
-use Rattle.reader.proofs.Asking.{Answered, reader-is}
-use Rattle.book_cases.proofs.Asking.{AskedR, asked-mach, asked-makes, ReaderR, AnswerR, Next, rd, canon, canon-is, Own, reader-told, reader-typed, answer-told, answer_typed, answer-spelt, to-next, goes-next, next-said}
+use Rattle.reader.proofs.Asking.{Answered, reader_is}
+use Rattle.book_cases.proofs.Asking.{AskedR, asked_mach, asked_makes, ReaderR, AnswerR, Next, rd, canon, canon_is, Own, reader_told, reader_typed, answer_told, answer_typed, answer_spelt, to_next, goes_next, next_said}
 use Rattle.book_cases.specs.contracts.Asked as TAsked
 use Rattle.book_cases.proofs.Asked.TheLaws as TAsked'
 use Rattle.reader.proofs.Reader.TheLaws as T'
@@ -78,20 +78,20 @@ module _ {M : Type 1} {𝓤 : Ura M} (𝓛 : Logic 𝓤) (mem : Memory → SProp
 
   -- what is handed back, with the part that the first answer holds
   abbrev found : Bor (List ℕ) → Asked
-  found x = record { which = whichAt xs n; size = length x.now; at = after_at xs n; again = whichAt xs (after_at xs n) }
+  found x = record { which = which_at xs n; size = length x.now; at = after_at xs n; again = which_at xs (after_at xs n) }
 
   abbrev Post : Val → SProp 𝓤
   Post = (walk_of 𝓛 first.ended stayed (first.clauses 𝓛 mem run)).post (((κ, tt), (q, tt), tt, (s, (n, tt)), at), tt)
 
-  exits : (x : Bor (List ℕ)) → x.now ≡ recordAt xs n → n < 2 ^ 64 → Is AskedR (found x) (asked-mach (found x) ∷ [])
-      → ent 𝓤 (⋆ 𝓛 (‵ (flft κ q) ∷ ‵ (Own κ s) ∷ [])) (Post (asked-mach (found x)))
+  exits : (x : Bor (List ℕ)) → x.now ≡ record_at xs n → n < 2 ^ 64 → Is AskedR (found x) (asked_mach (found x) ∷ [])
+      → ent 𝓤 (⋆ 𝓛 (‵ (flft κ q) ∷ ‵ (Own κ s) ∷ [])) (Post (asked_mach (found x)))
   exits x e fits g =
       qed 𝓛 (‵ (flft κ q) ∷ ‵ (Own κ s) ∷ []) ∵
-      suffices ! _ (ends_at 𝓛 first.ended stayed (first.clauses 𝓛 mem run) (((κ, tt), (q, tt), tt, (s, (n, tt)), at), tt) (asked-mach (found x)) (found x) (tt, (tt, tt)) (tt, (tt, tt))) $
+      suffices ! _ (ends_at 𝓛 first.ended stayed (first.clauses 𝓛 mem run) (((κ, tt), (q, tt), tt, (s, (n, tt)), at), tt) (asked_mach (found x)) (found x) (tt, (tt, tt)) (tt, (tt, tt))) $
       says ! (refl, ap length e, refl, refl) $
       nothing ! $ move ! (1 ∷ 0 ∷ []) $ join ! $ frame ! $
       nothing ! $ owned ! usize (Is usize) (uint_Makes 𝓛 w64) n _ (refl, fits) $ fjoin ! $ move ! (1 ∷ 0 ∷ []) $ fjoin ! $ frame ! $
-      owned ! AskedR (Is AskedR) (asked-makes 𝓛) (found x) _ g $ done !
+      owned ! AskedR (Is AskedR) (asked_makes 𝓛) (found x) _ g $ done !
 
   -- what the triple of `from` binds outside, that the caller has what it asks, and what is known of its result
   abbrev to-from : (From 𝓛 mem run).Ghost
@@ -122,40 +122,40 @@ module _ {M : Type 1} {𝓤 : Ura M} (𝓛 : Logic 𝓤) (mem : Memory → SProp
         await ! tt $ pick ! (λ r.
         split ! $ move ! (1 ∷ []) $ use1 𝓛 (raw (fact 𝓤 ((r.book ≡ s) × (r.at ≡ n)))) (from-said r) $ heard ! ((r.book ≡ s) × (r.at ≡ n)) (λ e₁. split ! $
         move ! (1 ∷ []) $
-        rewrite ! 0 (λ (r' : Reader). ‵ ((ReaderR (κ, tt)).own_val r' (w₁ ∷ []))) (reader-is s r n e₁) refl $
+        rewrite ! 0 (λ (r' : Reader). ‵ ((ReaderR (κ, tt)).own_val r' (w₁ ∷ []))) (reader_is s r n e₁) refl $
         facts ! (ReaderR (κ, tt)) (Is (ReaderR (κ, tt))) (shows 𝓛 (ReaderR (κ, tt))) (rd s n) (w₁ ∷ []) (λ is₁.
-        land ! (from ! (stop !)) (init ! 12 refl (reader-typed 𝓛 κ s n w₁ is₁)) $
-        rewrite ! 12 (λ (u : Val). ‵ (fat full_share (T'.mir erased) l₅ 0 u)) (ap only (reader-told κ s n w₁ is₁)) refl $ split ! $ move ! (1 ∷ []) $ drop ! $
+        land ! (from ! (stop !)) (init ! 12 refl (reader_typed 𝓛 κ s n w₁ is₁)) $
+        rewrite ! 12 (λ (u : Val). ‵ (fat full_share (T'.mir erased) l₅ 0 u)) (ap only (reader_told κ s n w₁ is₁)) refl $ split ! $ move ! (1 ∷ []) $ drop ! $
         -- the first answer
         move ! (1 ∷ []) $ use1 𝓛 (‵ (Own κ s) ⊛ ‵ (Own κ s)) ((shr_slice_copy 𝓛 (named 0) κ u8).twice s (v ∷ [])) $ split ! $ move ! (2 ∷ 0 ∷ []) $
-        use2 𝓛 (raw ((Next 𝓛 mem run).pre (to-next 𝓛 mem run κ q s n))) (goes-next 𝓛 mem run κ q s n fits) $
-        calls_at ! fm (Next 𝓛 mem run) known_next (to-next 𝓛 mem run κ q s n) (and_then ! (load ! (from ! (stop !)) (look ! 12 refl)) (no_more !)) (λ w₂.
+        use2 𝓛 (raw ((Next 𝓛 mem run).pre (to_next 𝓛 mem run κ q s n))) (goes_next 𝓛 mem run κ q s n fits) $
+        calls_at ! fm (Next 𝓛 mem run) known_next (to_next 𝓛 mem run κ q s n) (and_then ! (load ! (from ! (stop !)) (look ! 12 refl)) (no_more !)) (λ w₂.
         use1 𝓛 (later (some (λ (a : Answer). ((‵ (flft κ q) ⊛ ‵ ftrue) ⊛ ‵ ((AnswerR (κ, tt)).own_val a (w₂ ∷ []))) ⊛ raw (ensured 𝓛 next.ended (next.clauses 𝓛 mem run) (κ, tt) (rd s n, tt) tt a)))) (id⊢ 𝓤 _) $
         await ! tt $ pick ! (λ a.
-        split ! $ move ! (1 ∷ []) $ use1 𝓛 (raw (fact 𝓤 (Answered (rd s n) a))) (next-said 𝓛 mem run κ q s n a) $ heard ! (Answered (rd s n) a) (λ e₂. split ! $
+        split ! $ move ! (1 ∷ []) $ use1 𝓛 (raw (fact 𝓤 (Answered (rd s n) a))) (next_said 𝓛 mem run κ q s n a) $ heard ! (Answered (rd s n) a) (λ e₂. split ! $
         move ! (1 ∷ []) $
-        rewrite ! 0 (λ (a' : Answer). ‵ ((AnswerR (κ, tt)).own_val a' (w₂ ∷ []))) (canon-is s n a e₂) refl $
+        rewrite ! 0 (λ (a' : Answer). ‵ ((AnswerR (κ, tt)).own_val a' (w₂ ∷ []))) (canon_is s n a e₂) refl $
         facts ! (AnswerR (κ, tt)) (Is (AnswerR (κ, tt))) (shows 𝓛 (AnswerR (κ, tt))) (canon s n a.bytes) (w₂ ∷ []) (λ is₂.
         land ! (from ! (stop !)) (init ! 16 refl (answer_typed 𝓛 κ s n a.bytes w₂ is₂)) $
-        rewrite ! 16 (λ (u : Val). ‵ (fat full_share (An'.mir erased) l₃ 0 u)) (ap only (answer-told κ s n a.bytes w₂ is₂)) refl $ split ! $ move ! (1 ∷ []) $
+        rewrite ! 16 (λ (u : Val). ‵ (fat full_share (An'.mir erased) l₃ 0 u)) (ap only (answer_told κ s n a.bytes w₂ is₂)) refl $ split ! $ move ! (1 ∷ []) $
         drop ! $
-        let wt = answer-spelt 𝓛 κ s n a.bytes w₂ is₂ in
+        let wt = answer_spelt 𝓛 κ s n a.bytes w₂ is₂ in
         assigns ! (of_opd ! (load ! (from ! (fld ! refl (stop !))) (look_in ! 16 (sub ! 2 refl (whole !))))) (from ! (stop !)) (init ! 10 refl (tt, wt.1.1.1.0)) $
         -- the answer of the reader in it
         let m : ℕ = after_at xs n in
         move ! (1 ∷ []) $ use1 𝓛 (‵ (Own κ s) ⊛ ‵ (Own κ s)) ((shr_slice_copy 𝓛 (named 0) κ u8).twice s (v ∷ [])) $ split ! $ move ! (2 ∷ 0 ∷ []) $
-        use2 𝓛 (raw ((Next 𝓛 mem run).pre (to-next 𝓛 mem run κ q s m))) (goes-next 𝓛 mem run κ q s m wt.1.1.1.0.1.0.fits) $
-        calls_at ! fm (Next 𝓛 mem run) known_next (to-next 𝓛 mem run κ q s m) (and_then ! (load ! (from ! (stop !)) (look ! 10 refl)) (no_more !)) (λ w₃.
+        use2 𝓛 (raw ((Next 𝓛 mem run).pre (to_next 𝓛 mem run κ q s m))) (goes_next 𝓛 mem run κ q s m wt.1.1.1.0.1.0.fits) $
+        calls_at ! fm (Next 𝓛 mem run) known_next (to_next 𝓛 mem run κ q s m) (and_then ! (load ! (from ! (stop !)) (look ! 10 refl)) (no_more !)) (λ w₃.
         use1 𝓛 (later (some (λ (b : Answer). ((‵ (flft κ q) ⊛ ‵ ftrue) ⊛ ‵ ((AnswerR (κ, tt)).own_val b (w₃ ∷ []))) ⊛ raw (ensured 𝓛 next.ended (next.clauses 𝓛 mem run) (κ, tt) (rd s m, tt) tt b)))) (id⊢ 𝓤 _) $
         await ! tt $ pick ! (λ b.
-        split ! $ move ! (1 ∷ []) $ use1 𝓛 (raw (fact 𝓤 (Answered (rd s m) b))) (next-said 𝓛 mem run κ q s m b) $ heard ! (Answered (rd s m) b) (λ e₃. split ! $
+        split ! $ move ! (1 ∷ []) $ use1 𝓛 (raw (fact 𝓤 (Answered (rd s m) b))) (next_said 𝓛 mem run κ q s m b) $ heard ! (Answered (rd s m) b) (λ e₃. split ! $
         move ! (1 ∷ []) $
-        rewrite ! 0 (λ (b' : Answer). ‵ ((AnswerR (κ, tt)).own_val b' (w₃ ∷ []))) (canon-is s m b e₃) refl $
+        rewrite ! 0 (λ (b' : Answer). ‵ ((AnswerR (κ, tt)).own_val b' (w₃ ∷ []))) (canon_is s m b e₃) refl $
         facts ! (AnswerR (κ, tt)) (Is (AnswerR (κ, tt))) (shows 𝓛 (AnswerR (κ, tt))) (canon s m b.bytes) (w₃ ∷ []) (λ is₃.
         land ! (from ! (stop !)) (init ! 14 refl (answer_typed 𝓛 κ s m b.bytes w₃ is₃)) $
-        rewrite ! 14 (λ (u : Val). ‵ (fat full_share (An'.mir erased) l₄ 0 u)) (ap only (answer-told κ s m b.bytes w₃ is₃)) refl $ split ! $ move ! (1 ∷ []) $
+        rewrite ! 14 (λ (u : Val). ‵ (fat full_share (An'.mir erased) l₄ 0 u)) (ap only (answer_told κ s m b.bytes w₃ is₃)) refl $ split ! $ move ! (1 ∷ []) $
         drop ! $
-        let wt' = answer-spelt 𝓛 κ s m b.bytes w₃ is₃ in
+        let wt' = answer_spelt 𝓛 κ s m b.bytes w₃ is₃ in
         -- what is handed back
         assigns ! (of_opd ! (load ! (from ! (fld ! refl (stop !))) (look_in ! 16 (sub ! 0 refl (whole !))))) (from ! (stop !)) (init ! 8 refl (tt, wt.1.0)) $
         assigns ! (of_opd ! (load ! (from ! (fld ! refl (fld ! refl (stop !)))) (look_in ! 16 (sub ! 1 refl (sub ! 1 refl (whole !)))))) (from ! (stop !)) (init ! 6 refl (tt, wt.1.1.0.1.0)) $

@@ -1,13 +1,13 @@
 -- Each word is there and fits its field, by what is required. Assumes nothing.
 use mathlib.Core.List.{[], ◌∷◌}
 use lib.Dec.{eqb}
-use Rattle.c_words.specs.Words.{word, ledgerIn}
+use Rattle.c_words.specs.Words.{word, ledger_in}
 use borrow.Author.Rules.{rules}
 use Rattle.c_words.proofs.ledger_in.Statement.{statement}
 use Rattle.c_words.proofs.ledger_in.Tie as tie
 
 returns : tie.Need-returns
-unfolding ledgerIn
+unfolding ledger_in
 returns c =
     let ws = c.before.before.before.before.before.before.before.before.before.args.words.now in
     λ i.

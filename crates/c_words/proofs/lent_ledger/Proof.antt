@@ -2,9 +2,9 @@
 use mathlib.Core.Path.{◌≡◌, sym, ◌∙◌}
 use mathlib.Core.Bool.{true}
 use borrow.Author.Tests.{not-true, not-false}
-use Rattle.c_words.specs.Words.{wordsFit}
+use Rattle.c_words.specs.Words.{words_fit}
 use Rattle.c_words.proofs.WordLaws.{fit}
-use Rattle.c_words.proofs.LentLaws.{lent_other, lent-unfit, lent_fits}
+use Rattle.c_words.proofs.LentLaws.{lent_other, lent_unfit, lent_fits}
 use borrow.Author.Rules.{rules}
 use Rattle.c_words.proofs.lent_ledger.Statement.{statement}
 use Rattle.c_words.proofs.lent_ledger.Tie as tie
@@ -17,11 +17,11 @@ returns c =
 returns-2 : tie.Need-returns-2
 returns-2 c =
     let a = c.before.before.before.before.before.args in
-    c.no-ledger2.ensures ∙ sym (lent-unfit a.header a.words.now c.before.before.before.if1.false (sym c.before.before.words-fit.ensures ∙ not-true _ c.before.if2.true))
+    c.no-ledger2.ensures ∙ sym (lent_unfit a.header a.words.now c.before.before.before.if1.false (sym c.before.before.words_fit_lem.ensures ∙ not-true _ c.before.if2.true))
 
 -- past both tests the words hold a ledger
-hold : (c : tie.Else2) → wordsFit c.before.before.before.before.args.words.now ≡ true
-hold c = sym c.before.words-fit.ensures ∙ not-false _ c.if2.false
+hold : (c : tie.Else2) → words_fit c.before.before.before.before.args.words.now ≡ true
+hold c = sym c.before.words_fit_lem.ensures ∙ not-false _ c.if2.false
 
 ledger-in-requires : tie.Need-ledger-in-requires
 ledger-in-requires c κs = fit c.before.before.before.before.args.words.now (hold c)

@@ -2,7 +2,7 @@
 use mathlib.Core.Path.{sym, ◌∙◌}
 use Rattle.c_words.specs.Header.{headed}
 use Rattle.c_words.specs.Inside.{written, settled}
-use Rattle.c_words.proofs.LentLaws.{accepted-is, refused-is}
+use Rattle.c_words.proofs.LentLaws.{accepted_is, refused_is}
 use borrow.Author.Rules.{rules}
 use Rattle.c_words.proofs.settle.Statement.{statement}
 use Rattle.c_words.proofs.settle.Tie as tie
@@ -12,7 +12,7 @@ unfolding settled
 returns c =
     let a = c.before.before.before.args in
     let e = c.before.answer-by.ensures in
-    (e, sym (refused-is (headed a.header a.taken.answer) (written a.words.now a.taken.ledger) a.words.now (λ z. c.if1.true (e ∙ z))))
+    (e, sym (refused_is (headed a.header a.taken.answer) (written a.words.now a.taken.ledger) a.words.now (λ z. c.if1.true (e ∙ z))))
 
 returns-2 : tie.Need-returns-2
 unfolding settled
@@ -21,7 +21,7 @@ returns-2 c =
     let e = c.before.before.before.before.before.before.answer-by.ensures in (
       e,
       c.before.before.write.ensures ∙
-          sym (accepted-is (headed a.header a.taken.answer) (written a.words.now a.taken.ledger) a.words.now (sym e ∙ c.before.before.before.before.before.if1.false)),
+          sym (accepted_is (headed a.header a.taken.answer) (written a.words.now a.taken.ledger) a.words.now (sym e ∙ c.before.before.before.before.before.if1.false)),
     )
 
 pub settle-spec : {M : Type 1} → statement M

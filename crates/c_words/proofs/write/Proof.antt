@@ -5,9 +5,9 @@ use mathlib.Core.Bool.{cond}
 use lib.ListN.{length, length-set}
 use native.Mathlib.Omega.{arith}
 use borrow.Author.Tests.{eq-eqb, ne_eqb}
-use Rattle.c_words.specs.Words.{ledgerWords, words_of, wordsBefore, cellWords, cells_in}
+use Rattle.c_words.specs.Words.{ledger_words, words_of, words_before, cell_words, cells_in}
 use Rattle.c_words.specs.Inside.{written}
-use Rattle.c_words.proofs.WordLaws.{seven-set}
+use Rattle.c_words.proofs.WordLaws.{seven_set}
 use borrow.Author.Rules.{rules}
 use Rattle.c_words.proofs.write.Statement.{statement}
 use Rattle.c_words.proofs.write.Tie as tie
@@ -16,7 +16,7 @@ returns : tie.Need-returns
 unfolding written
 returns c =
     let a = c.before.before.args in
-    sym (ap (λ t. cond t (words_of a.ledger) a.words.now) (ne_eqb (length a.words.now) ledgerWords c.if1.true))
+    sym (ap (λ t. cond t (words_of a.ledger) a.words.now) (ne_eqb (length a.words.now) ledger_words c.if1.true))
 
 slice-write-words-4 : tie.Need-slice-write-words-4
 slice-write-words-4 c = simp length-set (omega (arith, c.before.before.before.before.before.before.before.if1.false))
@@ -42,16 +42,16 @@ returns-2 c =
     let a = c.before.before.before.before.before.before.before.before.before.before.before.before.before.before.before.before.args in
     let ws = a.words.now in
     let l = a.ledger in
-    let rest = cellWords (cells_in l.rows) in
+    let rest = cell_words (cells_in l.rows) in
     let size = c.before.before.before.before.before.before.before.before.before.before.before.before.before.before.if1.false in
     let there = c.before.before.before.before.before.before.before.before.before.before.flag in
     let nn = c.before.before.before.before.before.before.before.before.wide in
     let vn = c.before.before.before.before.before.before.before.wide2 in
     let vvn = c.before.before.before.before.before.before.wide3 in
     c.before.before.write-rows.ensures ∙
-    ap (λ us. us ++ rest) (seven-set ws there.result l.sheet.year nn.result vn.result vvn.result l.events l.short size) ∙
+    ap (λ us. us ++ rest) (seven_set ws there.result l.sheet.year nn.result vn.result vvn.result l.events l.short size) ∙
     (λ i. (there.ensures i ∷ l.sheet.year ∷ nn.ensures i ∷ vn.ensures i ∷ vvn.ensures i ∷ l.events ∷ l.short ∷ []) ++ rest) ∙
-    sym (ap (λ t. cond t (wordsBefore l ++ rest) ws) (eq-eqb (length ws) ledgerWords size))
+    sym (ap (λ t. cond t (words_before l ++ rest) ws) (eq-eqb (length ws) ledger_words size))
 
 pub write_spec : {M : Type 1} → statement M
 write_spec =

@@ -5,16 +5,16 @@ use mathlib.Core.List.{◌++◌}
 use lib.ListN.{length, take, drop}
 use native.Mathlib.Omega.{arith}
 use Rattle.codes.specs.Codes as codes
-use Rattle.c_words.specs.Words.{wordsFirst, ledgerWords, cellWords, cells_in}
-use Rattle.c_words.proofs.WordLaws.{rowStart, write-more, write-ends}
+use Rattle.c_words.specs.Words.{words_first, ledger_words, cell_words, cells_in}
+use Rattle.c_words.proofs.WordLaws.{row_start, write_more, write_ends}
 use borrow.Author.Rules.{rules}
 use Rattle.c_words.proofs.write_rows.Statement.{statement}
 use Rattle.c_words.proofs.write_rows.Tie as tie
 
 abbrev invariant-loop : tie.invariant-loop
 invariant-loop words₀ rows k₀ words k =
-    (k ≤ codes.rows) × (length words ≡ ledgerWords) × (length rows ≡ codes.rows) ×
-    (take (rowStart k) words ++ cellWords (cells_in (drop k rows)) ≡ take wordsFirst words₀ ++ cellWords (cells_in rows))
+    (k ≤ codes.rows) × (length words ≡ ledger_words) × (length rows ≡ codes.rows) ×
+    (take (row_start k) words ++ cell_words (cells_in (drop k rows)) ≡ take words_first words₀ ++ cell_words (cells_in rows))
 
 abbrev decreases-loop : tie.decreases-loop
 decreases-loop words₀ rows k₀ words k = codes.rows - k
@@ -31,13 +31,13 @@ loop-again c =
       search rules,
       c.before.words.given ∙ l.invariant.1,
       l.invariant.2,
-      ap (λ ws. take (rowStart (l.k + 1)) ws ++ cellWords (cells_in (drop (l.k + 1) rs))) put.put-row.ensures ∙ write-more l.words rs l.k (omega arith) (omega (arith, l.invariant.1)) ∙ l.invariant.3,
+      ap (λ ws. take (row_start (l.k + 1)) ws ++ cell_words (cells_in (drop (l.k + 1) rs))) put.put_row_lem.ensures ∙ write_more l.words rs l.k (omega arith) (omega (arith, l.invariant.1)) ∙ l.invariant.3,
     )
 
 returns : tie.Need-returns invariant-loop decreases-loop
 returns c =
     let l = c.before.loop in
-    sym (write-ends l.words c.before.before.before.args.t2 l.k (omega arith) (omega arith)) ∙ l.invariant.3
+    sym (write_ends l.words c.before.before.before.args.t2 l.k (omega arith) (omega arith)) ∙ l.invariant.3
 
 pub write-rows-spec : {M : Type 1} → statement M
 write-rows-spec =

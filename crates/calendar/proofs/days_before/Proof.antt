@@ -2,7 +2,7 @@
 use Prim.Native.Nat.{◌-◌}
 use native.Mathlib.Omega.{arith}
 use borrow.Author.Rules.{rules}
-use Rattle.calendar.proofs.MonthLaws.{Summed, summed-begins, summed-on, summed-here, summed-all, days-at-most}
+use Rattle.calendar.proofs.MonthLaws.{Summed, summed_begins, summed_on, summed_here, summed_all, days_at_most}
 use Rattle.calendar.proofs.days_before.Statement.{statement}
 use Rattle.calendar.proofs.days_before.Tie as tie
 
@@ -13,31 +13,31 @@ abbrev decreases-loop : tie.decreases-loop
 decreases-loop year month m₀ days₀ m days = 13 - m
 
 loop-holds : tie.Need-loop-init invariant-loop decreases-loop
-loop-holds c = summed-begins c.args.year c.args.month
+loop-holds c = summed_begins c.args.year c.args.month
 
 returns : tie.Need-returns invariant-loop decreases-loop
 returns c =
     let a = c.before.before.before.args in
     let l = c.before.before.loop in
-    summed-here a.year a.month l.m l.days l.invariant (omega arith)
+    summed_here a.year a.month l.m l.days l.invariant (omega arith)
 
 add-days : tie.Need-overflow-add-days invariant-loop decreases-loop
 add-days c =
     let a = c.before.before.before.before.args in
     let l = c.before.before.before.loop in
-    omega (arith, l.invariant.few, c.days-in.ensures, days-at-most a.year l.m)
+    omega (arith, l.invariant.few, c.days-in.ensures, days_at_most a.year l.m)
 
 loop-again : tie.Need-loop-preserved invariant-loop decreases-loop
 loop-again c =
     let a = c.before.before.before.before.args in
     let l = c.before.before.before.loop in
-    rw c.days-in.ensures (summed-on a.year a.month l.m l.days l.invariant (omega arith) (omega arith))
+    rw c.days-in.ensures (summed_on a.year a.month l.m l.days l.invariant (omega arith) (omega arith))
 
 returns-2 : tie.Need-returns-2 invariant-loop decreases-loop
 returns-2 c =
     let a = c.before.before.args in
     let l = c.before.loop in
-    summed-all a.year a.month l.m l.days l.invariant (omega arith)
+    summed_all a.year a.month l.m l.days l.invariant (omega arith)
 
 pub days-before-spec : {M : Type 1} → statement M
 days-before-spec =

@@ -3,7 +3,7 @@ use Prim.Native.Nat.{◌≤◌, ◌-◌}
 use mathlib.Core.Path.{◌≡◌, ◌∙◌, sym}
 use lib.ListN.{length, drop}
 use Rattle.base.specs.Lists.{listed}
-use Rattle.base.proofs.ListLaws.{listed_here, listed-past, listed-none}
+use Rattle.base.proofs.ListLaws.{listed_here, listed_past, listed_none}
 use borrow.Author.Rules.{rules}
 use Rattle.codes.proofs.in_table.Statement.{statement}
 use Rattle.codes.proofs.in_table.Tie as tie
@@ -24,13 +24,13 @@ loop-again : tie.Need-loop-preserved invariant-loop decreases-loop
 loop-again c =
     let a = c.before.before.before.args in
     let l = c.before.before.loop in
-    (search rules, l.invariant.1 ∙ listed-past a.code l.i a.t1 (search rules) c.if1.false, search rules)
+    (search rules, l.invariant.1 ∙ listed_past a.code l.i a.t1 (search rules) c.if1.false, search rules)
 
 returns-2 : tie.Need-returns-2 invariant-loop decreases-loop
 returns-2 c =
     let a = c.before.before.args in
     let l = c.before.loop in
-    sym (l.invariant.1 ∙ listed-none a.code l.i a.t1 (search rules))
+    sym (l.invariant.1 ∙ listed_none a.code l.i a.t1 (search rules))
 
 pub in-table-spec : {M : Type 1} → statement M
 in-table-spec =

@@ -2,14 +2,14 @@
 use Prim.Native.Nat.{◌≤◌, ◌-◌}
 use mathlib.Core.Path.{◌≡◌, ◌∙◌, sym, refl}
 use lib.ListN.{length, drop}
-use Rattle.codes.specs.Codes.{levelIn}
+use Rattle.codes.specs.Codes.{level_in}
 use borrow.Author.Rules.{rules}
-use Rattle.codes.proofs.CodeLaws.{in-here, in-past, in-none}
+use Rattle.codes.proofs.CodeLaws.{in_here, in_past, in_none}
 use Rattle.codes.proofs.level_in.Statement.{statement}
 use Rattle.codes.proofs.level_in.Tie as tie
 
 abbrev invariant-loop : tie.invariant-loop
-invariant-loop voltage table i₀ i = (i ≤ 7) × (levelIn voltage table ≡ levelIn voltage (drop i table)) × (length table ≡ 7)
+invariant-loop voltage table i₀ i = (i ≤ 7) × (level_in voltage table ≡ level_in voltage (drop i table)) × (length table ≡ 7)
 
 abbrev decreases-loop : tie.decreases-loop
 decreases-loop voltage table i₀ i = 7 - i
@@ -18,19 +18,19 @@ returns : tie.Need-returns invariant-loop decreases-loop
 returns c =
     let a = c.before.before.before.before.before.args in
     let l = c.before.before.before.before.loop in
-    sym (l.invariant.1 ∙ in-here a.voltage a.t1 l.i (search rules) c.if1.true)
+    sym (l.invariant.1 ∙ in_here a.voltage a.t1 l.i (search rules) c.if1.true)
 
 loop-again : tie.Need-loop-preserved invariant-loop decreases-loop
 loop-again c =
     let a = c.before.before.before.before.before.args in
     let l = c.before.before.before.before.loop in
-    (search rules, l.invariant.1 ∙ in-past a.voltage a.t1 l.i (search rules) c.if1.false, search rules)
+    (search rules, l.invariant.1 ∙ in_past a.voltage a.t1 l.i (search rules) c.if1.false, search rules)
 
 returns-2 : tie.Need-returns-2 invariant-loop decreases-loop
 returns-2 c =
     let a = c.before.before.args in
     let l = c.before.loop in
-    sym (l.invariant.1 ∙ in-none a.voltage a.t1 l.i (search rules))
+    sym (l.invariant.1 ∙ in_none a.voltage a.t1 l.i (search rules))
 
 pub level-in-spec : {M : Type 1} → statement M
 level-in-spec =

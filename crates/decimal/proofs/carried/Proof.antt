@@ -3,20 +3,20 @@ use borrow.Author.Rules.{rules}
 use Prim.Native.Nat.{◌<◌}
 use mathlib.Core.Path.{sym}
 use native.Mathlib.Omega.{arith}
-use Rattle.decimal.proofs.DivisionLaws.{split-under, split-full}
+use Rattle.decimal.proofs.DivisionLaws.{split_under, split_full}
 use Rattle.decimal.proofs.carried.Statement.{statement}
 use Rattle.decimal.proofs.carried.Tie as tie
 
 returns : tie.Need-returns
 returns c =
     let a = c.before.args in
-    sym (rw c.if1.true (split-full a.whole a.power (search rules)))
+    sym (rw c.if1.true (split_full a.whole a.power (search rules)))
 
 returns-2 : tie.Need-returns-2
 returns-2 c =
     let a = c.before.args in
     let h : a.digits < a.power = omega arith in
-    sym (split-under a.whole a.power a.digits h)
+    sym (split_under a.whole a.power a.digits h)
 
 pub carried-spec : {M : Type 1} → statement M
 carried-spec = tie.close

@@ -4,7 +4,7 @@ use Prim.Native.Nat.{◌-◌, ◌<◌, ◌≤◌}
 use mathlib.Core.Path.{◌≡◌, refl}
 use native.Mathlib.Omega.{arith}
 use Rattle.decimal.specs.Decimal.{Divided}
-use Rattle.decimal.proofs.DivisionLaws.{digit-more, six-digits-small}
+use Rattle.decimal.proofs.DivisionLaws.{digit_more, six_digits_small}
 use Rattle.decimal.proofs.divide.Statement.{statement}
 use Rattle.decimal.proofs.divide.Tie as tie
 
@@ -25,7 +25,7 @@ small : (c : tie.In-loop invariant-loop decreases-loop) → (c.before.loop.x.pow
 small c =
     let a = c.before.before.args in
     let l = c.before.loop in
-    six-digits-small a.m a.d l.k l.x l.invariant.1 (omega arith)
+    six_digits_small a.m a.d l.k l.x l.invariant.1 (omega arith)
 
 mul-t8 : tie.Need-overflow-mul-t8 invariant-loop decreases-loop
 mul-t8 c = omega (arith, small c.before.before)
@@ -41,7 +41,7 @@ loop-again c =
     let a = c.before.before.before.before.before.before.args in
     let l = c.before.before.before.before.before.loop in
     let t = c.before.before.before.tenfold in
-    (search rules, digit-more a.m a.d l.k l.x l.invariant.1 t.result t.ensures)
+    (search rules, digit_more a.m a.d l.k l.x l.invariant.1 t.result t.ensures)
 
 returns : tie.Need-returns invariant-loop decreases-loop
 returns c =

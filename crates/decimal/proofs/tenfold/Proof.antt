@@ -5,7 +5,7 @@ use mathlib.Core.Path.{◌≡◌, ◌∙◌, ap}
 use mathlib.Core.Logic.{⊎_elim}
 use native.Mathlib.Omega.{arith}
 use native.Mathlib.Nat.{lt_of_mul-lt-mul_right}
-use Rattle.decimal.proofs.DivisionLaws.{one-more-time}
+use Rattle.decimal.proofs.DivisionLaws.{one_more_time}
 use Rattle.decimal.proofs.tenfold.Statement.{statement}
 use Rattle.decimal.proofs.tenfold.Tie as tie
 
@@ -22,8 +22,8 @@ loop-again : tie.Need-loop-preserved invariant-loop decreases-loop
 loop-again c =
     let a = c.before.before.before.args in
     let l = c.before.before.loop in
-    let turn : (l.k + 1) * a.rest ≡ l.k * a.rest + a.rest = one-more-time l.k a.rest in
-    let carry : (l.digit + 1) * a.d ≡ l.digit * a.d + a.d = one-more-time l.digit a.d in
+    let turn : (l.k + 1) * a.rest ≡ l.k * a.rest + a.rest = one_more_time l.k a.rest in
+    let carry : (l.digit + 1) * a.d ≡ l.digit * a.d + a.d = one_more_time l.digit a.d in
     ⊎_elim
     (λ w. (let e : c.if1.digit * a.d ≡ l.digit * a.d + a.d = ap (λ (x : ℕ). x * a.d) w.1 ∙ carry in
     (omega arith, omega arith, omega arith, omega arith)))

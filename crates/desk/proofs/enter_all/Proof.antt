@@ -52,15 +52,15 @@ use denote.Triple.Call.{calls_at}
 use denote.Triple.Clauses.{ensured, lasts}
 use denote.Triple.Table.{entered, cited}
 use Rattle.slot.specs.declared.Slot.{Slot}
-use Rattle.slot.specs.Slot.{freeSlot}
+use Rattle.slot.specs.Slot.{free_slot}
 use Rattle.desk_scan.specs.declared.Roll.{Roll}
-use Rattle.desk_scan.specs.Inside.{rollBy, rolledSlot, rolled}
+use Rattle.desk_scan.specs.Inside.{roll_by, rolled_slot, rolled}
 use Rattle.desk_scan.specs.contracts.enter as enter-slot
 use Rattle.desk_scan.proofs.enter.Symbol as enter-slot-def
 use Rattle.desk_scan.proofs.enter.Symbol.{name as #desk_scan·enter}
 use Rattle.desk_scan.proofs.enter.Met as enter-slot-thm
-use Rattle.desk_scan.proofs.RollLaws.{turned, at-end}
-use Rattle.desk.proofs.SlotLaws.{R, vals, tells, place-slot, offset-fits, after, ty_at, slot-shows, slot-copy, slot-makes, slot-typed}
+use Rattle.desk_scan.proofs.RollLaws.{turned, at_end}
+use Rattle.desk.proofs.SlotLaws.{R, vals, tells, place_slot, offset_fits, after, ty_at, slot_shows, slot_copy, slot_makes, slot_typed}
 use Rattle.desk.specs.contracts.enter_all.Key.{name as #desk·enter-all}
 use Rattle.desk.specs.contracts.enter_all as enter-all
 use Rattle.desk.proofs.enter_all.Statement as stated
@@ -111,7 +111,7 @@ module _ {M : Type 1} {𝓤 : Ura M} (𝓛 : Logic 𝓤) (mem : Memory → SProp
 
   -- what the whole pass gives
   abbrev all : Roll
-  all = rolled (rollBy true start) 0 ys
+  all = rolled (roll_by true start) 0 ys
 
   abbrev Post : Val → SProp 𝓤
   Post = (walk_of 𝓛 enter-all.ended stayed (enter-all.clauses 𝓛 mem run)).post (((κ₀, (κ₁, tt)), (q₀, (q₁, tt)), tt, x, at), tt)
@@ -135,12 +135,12 @@ module _ {M : Type 1} {𝓤 : Ura M} (𝓛 : Logic 𝓤) (mem : Memory → SProp
   goes-enter : (ν : ℕ) (δ : GName) (xs : List ℕ) (s : Bool) (i : ℕ) (slot : Slot) → i < 2 ^ 64 → Is R slot (vals slot)
       → ent 𝓤 (⋆ 𝓛 (‵ (flft (ν ∷ []) full_share) ∷ ‵ (Lent ν δ xs) ∷ [])) ((Enter 𝓛 mem run).pre (to-enter ν δ xs s i slot))
   goes-enter ν δ xs s i slot gi g =
-      qed 𝓛 (‵ (flft (ν ∷ []) full_share) ∷ ‵ (Lent ν δ xs) ∷ []) ∵ nothing ! $ move ! (1 ∷ 0 ∷ []) $ join ! $ nothing ! $ owned ! R (Is R) (slot-makes 𝓛) slot _ g $ fjoin ! $
+      qed 𝓛 (‵ (flft (ν ∷ []) full_share) ∷ ‵ (Lent ν δ xs) ∷ []) ∵ nothing ! $ move ! (1 ∷ 0 ∷ []) $ join ! $ nothing ! $ owned ! R (Is R) (slot_makes 𝓛) slot _ g $ fjoin ! $
       owned ! usize (Is usize) (uint_Makes 𝓛 w64) i _ (refl, gi) $ fjoin ! $ owned ! bool (Is bool) (bool_Makes 𝓛) s _ refl $ fjoin ! $ move ! (2 ∷ 0 ∷ []) $ fjoin ! $ move ! (1 ∷ 0 ∷ []) $ join ! $ frame ! $ done !
 
   -- the loop's variant: the index that the pass has come to, the answer and the numbers so far, and what is known there
   abbrev Come : ℕ → Bool → List ℕ → Type 0
-  Come i s xs = (i ≤ n) × (rolled (rollBy s xs) i (dropN i ys) ≡ all) × (length xs ≡ length start)
+  Come i s xs = (i ≤ n) × (rolled (roll_by s xs) i (dropN i ys) ≡ all) × (length xs ≡ length start)
 
   abbrev Upto : Type 0
   Upto = (i : ℕ) × ((s : Bool) × ((xs : List ℕ) × Come i s xs))
@@ -182,13 +182,13 @@ module _ {M : Type 1} {𝓤 : Ura M} (𝓛 : Logic 𝓤) (mem : Memory → SProp
         assigns ! (addr ! (from ! (fld ! refl (hop ! (look_in ! 23 (sub ! 0 refl (whole !))) (stop !))))) (from ! (stop !)) (init ! 13 refl (tt, tt)) $
         assigns ! (agg ! (and_then ! (load ! (from ! (stop !)) (look ! 13 refl)) (and_then ! (load ! (from ! (fld ! refl (stop !))) (look_in ! 23 (sub ! 1 refl (whole !)))) (no_more !)))) (from ! (stop !)) (init ! 11 refl (tt, (tt, (record { fits = room₁.0 }, tt)))) $
         rewrite ! 11 (λ (j : ℕ). ‵ (fat full_share (ty_at 8 body.locals) l₈ 0 (slice_val (b₁, o₁) j))) (sym (as_many t)) refl $
-        assigns ! (bin ! (load ! (from ! (stop !)) (look ! 19 refl)) (lit ! tt) (record { fits = offset-fits n t.0 room₀ l })) (from ! (stop !)) (store ! 17 refl (tt, record { fits = offset-fits n t.0 room₀ l })) $
+        assigns ! (bin ! (load ! (from ! (stop !)) (look ! 19 refl)) (lit ! tt) (record { fits = offset_fits n t.0 room₀ l })) (from ! (stop !)) (store ! 17 refl (tt, record { fits = offset_fits n t.0 room₀ l })) $
         assigns ! (bin ! (load ! (from ! (fld ! refl (stop !))) (look_in ! 25 (sub ! 0 refl (whole !)))) (load ! (from ! (stop !)) (look ! 17 refl)) tt) (from ! (stop !)) (init ! 9 refl (tt, tt)) $
-        rewrite ! 9 (λ (p : ℕ). ‵ (fat full_share ty_ptr l₉ 0 (vptr b p))) (sym (place-slot o t.0)) refl $
-        elem_out ! R (Is R) (slot-shows 𝓛) vals tells q' ys t.0 freeSlot b o l (λ g.
+        rewrite ! 9 (λ (p : ℕ). ‵ (fat full_share ty_ptr l₉ 0 (vptr b p))) (sym (place_slot o t.0)) refl $
+        elem_out ! R (Is R) (slot_shows 𝓛) vals tells q' ys t.0 free_slot b o l (λ g.
         -- [desk[i]; what it owns; the others; the open borrow; what desk owns; …]
-        assigns ! (of_opd ! (load ! (from ! (hop ! (look ! 11 refl) (stop !))) (look_raw ! 0 refl))) (from ! (stop !)) (init ! 9 refl (slot-typed 𝓛 (elem t) g)) $
-        elem_back ! R q' ys t.0 freeSlot (vals (elem t)) b o l $
+        assigns ! (of_opd ! (load ! (from ! (hop ! (look ! 11 refl) (stop !))) (look_raw ! 0 refl))) (from ! (stop !)) (init ! 9 refl (slot_typed 𝓛 (elem t) g)) $
+        elem_back ! R q' ys t.0 free_slot (vals (elem t)) b o l $
         -- the numbers are lent for a lifetime ν of the call
         lft_new ! tt (λ ν. move ! (4 ∷ []) $
         use1 𝓛 (later (some (λ (δ : GName). ‵ (Lent ν δ (xs t)) ⊛ ‵ (flent (ν ∷ []) (Held u16 (length (xs t)) b₁ o₁ δ))))) (lends_slice 𝓛 u16 (named 0) (ν ∷ []) (xs t) b₁ o₁ (subst (Room u16) (sym (as_many t)) room₁)) $ await ! tt $ pick ! (λ δ. split ! $
@@ -223,16 +223,16 @@ module _ {M : Type 1} {𝓤 : Ura M} (𝓛 : Logic 𝓤) (mem : Memory → SProp
         as_many u = u.1.1.1.2
 
         elem : Upto → Slot
-        elem u = get_or ys u.0 freeSlot
+        elem u = get_or ys u.0 free_slot
 
         found : Upto → Roll
-        found u = rolledSlot (rollBy u.1.0 u.1.1.0) u.0 (get_or ys u.0 freeSlot)
+        found u = rolled_slot (roll_by u.1.0 u.1.1.0) u.0 (get_or ys u.0 free_slot)
 
         following : (u : Upto) → u.0 < n → (r : Bool) (zs : List ℕ) → (r ≡ (found u).sound) × (zs ≡ (found u).numbers) → length zs ≡ length u.1.1.0 → Upto
-        following u l r zs e k = (u.0 + 1, (r, (zs, (add-one-le l, (λ j. rolled (rollBy (e.0 j) (e.1 j)) (u.0 + 1) (dropN (u.0 + 1) ys)) ∙ sym (turned (rollBy u.1.0 u.1.1.0) u.0 ys l) ∙ u.1.1.1.1, k ∙ as_many u))))
+        following u l r zs e k = (u.0 + 1, (r, (zs, (add-one-le l, (λ j. rolled (roll_by (e.0 j) (e.1 j)) (u.0 + 1) (dropN (u.0 + 1) ys)) ∙ sym (turned (roll_by u.1.0 u.1.1.0) u.0 ys l) ∙ u.1.1.1.1, k ∙ as_many u))))
 
-        come : (u : Upto) → (n ≤ u.0) → rollBy u.1.0 u.1.1.0 ≡ all
-        come u over = sym (at-end (rollBy u.1.0 u.1.1.0) u.0 ys over) ∙ u.1.1.1.1
+        come : (u : Upto) → (n ≤ u.0) → roll_by u.1.0 u.1.1.0 ≡ all
+        come u over = sym (at_end (roll_by u.1.0 u.1.1.0) u.0 ys over) ∙ u.1.1.1.1
 
   walk : (𝓣 : Tables 𝓤 H) → FmC 𝓤 H 𝓛.laws 𝓣.C → Triple 𝓤 (𝓣.C #desk_scan·enter) (Enter 𝓛 mem run)
       → ent 𝓤 (on_entry 𝓛 enter-all.signature (κ₀, (κ₁, tt)) (q₀, (q₁, tt)) x at) (WpFn 𝓤 H 𝓣.C 𝓣.Λ code.function (v₀ ∷ v₁ ∷ []) Post)
@@ -248,7 +248,7 @@ module _ {M : Type 1} {𝓤 : Ura M} (𝓛 : Logic 𝓤) (mem : Memory → SProp
       -- what desk owns is had twice: one copy is kept whole for the exit, and of the other the fractured borrow is looked into
       move ! (7 ∷ []) $ use1 𝓛 (‵ Own₀ ⊛ ‵ Own₀) ((shr_slice_copy 𝓛 (named 0) κ₀ R).twice x.0 (v₀ ∷ [])) $ split ! $
       fsplit ! $ drop ! $ fsplit ! $ drop ! $ move ! (0 ∷ 7 ∷ []) $
-      looks_slice ! tt R (Is R) (slot-shows 𝓛) vals tells (slot-copy 𝓛) ys b o (λ q'.
+      looks_slice ! tt R (Is R) (slot_shows 𝓛) vals tells (slot_copy 𝓛) ys b o (λ q'.
       keep ! (0 ∷ 1 ∷ 3 ∷ 4 ∷ 5 ∷ 6 ∷ 7 ∷ 10 ∷ 11 ∷ 12 ∷ 13 ∷ 14 ∷ 15 ∷ 16 ∷ 17 ∷ 18 ∷ 19 ∷ 20 ∷ 21 ∷ 22 ∷ 23 ∷ 24 ∷ 25 ∷ 26 ∷ 27 ∷ 28 ∷ 29 ∷ 30 ∷ 31 ∷ []) $
       first ! $ blocks ! $ loops ! 𝓣 Nearer Nearer-wf (At 𝓣 fm known l₀ l₁ l₂ l₃ l₄ l₅ l₆ l₇ l₈ l₉ l₁₀ q') (turns 𝓣 fm known l₀ l₁ l₂ l₃ l₄ l₅ l₆ l₇ l₈ l₉ l₁₀ q') (0, (true, (start, (zero-le, refl, refl))))))))))))))))
 

@@ -1,4 +1,4 @@
--- `desk::planned` meets its contract: a walk of its MIR, by hand, of six calls in a row and no branch. All that it knows of the callees is that each meets its contract; what they come to is `plan-is`.
+-- `desk::planned` meets its contract: a walk of its MIR, by hand, of six calls in a row and no branch. All that it knows of the callees is that each meets its contract; what they come to is `plan_is`.
 -- The numbers lie in a local, an array; it is lent whole as a slice for a lifetime of the call of `enter_all`, and comes back with the numbers of the roll.
 -- The three slices are Copy: what each owns is had twice before a call that takes it, at its own lifetime and share. What the plain values own is never carried: their relations make it anew.
 -- Assumes nothing.
@@ -47,19 +47,19 @@ use denote.Triple.Clauses.{ensured, lasts}
 use denote.Triple.Table.{entered, cited}
 use Rattle.ledger.specs.declared.Ledger.{Ledger}
 use Rattle.slot.specs.declared.Slot.{Slot}
-use Rattle.slot.specs.Slot.{freeSlot}
+use Rattle.slot.specs.Slot.{free_slot}
 use Rattle.slot.specs.contracts.Slot as TSlot
 use Rattle.slot.proofs.Slot.TheLaws as TSlot'
 use Rattle.desk_scan.specs.declared.Roll.{Roll}
-use Rattle.desk_scan.specs.Inside.{rollBy, rollOf, placeNamed}
+use Rattle.desk_scan.specs.Inside.{roll_by, roll_of, place_named}
 use Rattle.desk_scan.proofs.Roll.TheLaws as TRoll'
 use Rattle.desk_rules.specs.declared.Plan.{Plan}
-use Rattle.desk_rules.specs.Inside.{planBy}
+use Rattle.desk_rules.specs.Inside.{plan_by}
 use Rattle.desk_rules.proofs.Plan.TheLaws as TPlan'
-use Rattle.desk_rules.proofs.ServeLaws.{plan-is}
-use Rattle.desk.proofs.ArrayLend.{cell_in, cell_out, lends-whole, whole_back}
-use Rattle.desk.proofs.SlotLaws.{R, vals, tells, ty_at, slot-makes}
-use Rattle.desk.proofs.Rows.{RollR, LedgerR, PlanR, roll-vals, roll-tells, roll-makes, roll-typed, ledger-mach, ledger-vals, ledger-tells, ledger-makes, ledger-typed, plan-mach, plan-vals, plan-tells, plan-makes, plan-typed}
+use Rattle.desk_rules.proofs.ServeLaws.{plan_is}
+use Rattle.desk.proofs.ArrayLend.{cell_in, cell_out, lends_whole, whole_back}
+use Rattle.desk.proofs.SlotLaws.{R, vals, tells, ty_at, slot_makes}
+use Rattle.desk.proofs.Rows.{RollR, LedgerR, PlanR, roll_vals, roll_tells, roll_makes, roll_typed, ledger_mach, ledger_vals, ledger_tells, ledger_makes, ledger_typed, plan_mach, plan_vals, plan_tells, plan_makes, plan_typed}
 use Rattle.desk.specs.contracts.enter_all as enter-all
 use Rattle.desk.proofs.enter_all.Symbol as enter-all-def
 use Rattle.desk.proofs.enter_all.Symbol.{name as #desk·enter-all}
@@ -127,23 +127,23 @@ module _ {M : Type 1} {𝓤 : Ura M} (𝓛 : Logic 𝓤) (mem : Memory → SProp
   Decide = triple_of 𝓛 decide.signature (decide.spec 𝓛 mem run)
 
   -- of the `ensured` of each callee but the first, the clause alone: none of these has a last value
-  by_said : (x : Bool) (ns : List ℕ) (r : Roll) → ent 𝓤 (ensured 𝓛 by-roll.ended (by-roll.clauses 𝓛 mem run) tt (x, (ns, tt)) tt r) (fact 𝓤 (r ≡ rollBy x ns))
-  by_said x ns r = ex_e 𝓤 _ (λ ws. snd∗ 𝓤 (sem 𝓛 (lasts by-roll.ended tt (x, (ns, tt)) ws)) (fact 𝓤 (r ≡ rollBy x ns)))
+  by_said : (x : Bool) (ns : List ℕ) (r : Roll) → ent 𝓤 (ensured 𝓛 by-roll.ended (by-roll.clauses 𝓛 mem run) tt (x, (ns, tt)) tt r) (fact 𝓤 (r ≡ roll_by x ns))
+  by_said x ns r = ex_e 𝓤 _ (λ ws. snd∗ 𝓤 (sem 𝓛 (lasts by-roll.ended tt (x, (ns, tt)) ws)) (fact 𝓤 (r ≡ roll_by x ns)))
 
-  named-said : (κ : Lft) (a : Roll) (s : Bor (List ℕ)) (r : ℕ) → ent 𝓤 (ensured 𝓛 named-roll.ended (named-roll.clauses 𝓛 mem run) (κ, tt) (a, (s, tt)) tt r) (fact 𝓤 (r ≡ placeNamed a s.now))
-  named-said κ a s r = ex_e 𝓤 _ (λ ws. snd∗ 𝓤 (sem 𝓛 (lasts named-roll.ended (κ, tt) (a, (s, tt)) ws)) (fact 𝓤 (r ≡ placeNamed a s.now)))
+  named-said : (κ : Lft) (a : Roll) (s : Bor (List ℕ)) (r : ℕ) → ent 𝓤 (ensured 𝓛 named-roll.ended (named-roll.clauses 𝓛 mem run) (κ, tt) (a, (s, tt)) tt r) (fact 𝓤 (r ≡ place_named a s.now))
+  named-said κ a s r = ex_e 𝓤 _ (λ ws. snd∗ 𝓤 (sem 𝓛 (lasts named-roll.ended (κ, tt) (a, (s, tt)) ws)) (fact 𝓤 (r ≡ place_named a s.now)))
 
-  free-said : (r : Slot) → ent 𝓤 (ensured 𝓛 free.ended (free.clauses 𝓛 mem run) tt tt tt r) (fact 𝓤 (r ≡ freeSlot))
-  free-said r = ex_e 𝓤 _ (λ ws. snd∗ 𝓤 (sem 𝓛 (lasts free.ended tt tt ws)) (fact 𝓤 (r ≡ freeSlot)))
+  free-said : (r : Slot) → ent 𝓤 (ensured 𝓛 free.ended (free.clauses 𝓛 mem run) tt tt tt r) (fact 𝓤 (r ≡ free_slot))
+  free-said r = ex_e 𝓤 _ (λ ws. snd∗ 𝓤 (sem 𝓛 (lasts free.ended tt tt ws)) (fact 𝓤 (r ≡ free_slot)))
 
   at-said : (κ : Lft) (d : Bor (List Slot)) (i : ℕ) (a : Slot) (r : Slot) → ent 𝓤 (ensured 𝓛 slot_at.ended (slot_at.clauses 𝓛 mem run) (κ, tt) (d, (i, (a, tt))) tt r) (fact 𝓤 (r ≡ get_or d.now i a))
   at-said κ d i a r = ex_e 𝓤 _ (λ ws. snd∗ 𝓤 (sem 𝓛 (lasts slot_at.ended (κ, tt) (d, (i, (a, tt))) ws)) (fact 𝓤 (r ≡ get_or d.now i a)))
 
-  decide-said : (κ κ' : Lft) (n : ℕ) (a : Roll) (b : Slot) (l : Ledger) (m s : Bor (List ℕ)) (r : Plan) → ent 𝓤 (ensured 𝓛 decide.ended (decide.clauses 𝓛 mem run) (κ, (κ', tt)) (n, (a, (b, (l, (m, (s, tt)))))) tt r) (fact 𝓤 (r ≡ planBy n a b l m.now s.now))
-  decide-said κ κ' n a b l m s r = ex_e 𝓤 _ (λ ws. snd∗ 𝓤 (sem 𝓛 (lasts decide.ended (κ, (κ', tt)) (n, (a, (b, (l, (m, (s, tt)))))) ws)) (fact 𝓤 (r ≡ planBy n a b l m.now s.now)))
+  decide-said : (κ κ' : Lft) (n : ℕ) (a : Roll) (b : Slot) (l : Ledger) (m s : Bor (List ℕ)) (r : Plan) → ent 𝓤 (ensured 𝓛 decide.ended (decide.clauses 𝓛 mem run) (κ, (κ', tt)) (n, (a, (b, (l, (m, (s, tt)))))) tt r) (fact 𝓤 (r ≡ plan_by n a b l m.now s.now))
+  decide-said κ κ' n a b l m s r = ex_e 𝓤 _ (λ ws. snd∗ 𝓤 (sem 𝓛 (lasts decide.ended (κ, (κ', tt)) (n, (a, (b, (l, (m, (s, tt)))))) ws)) (fact 𝓤 (r ≡ plan_by n a b l m.now s.now)))
 
 module _ {M : Type 1} {𝓤 : Ura M} (𝓛 : Logic 𝓤) (mem : Memory → SProp 𝓤) (run : Routine → Fun 𝓤) (κ₀ κ₁ κ₂ : Lft) (q₀ q₁ q₂ : Share) (d : Bor (List Slot)) (l : Ledger) (m s : Bor (List ℕ))
-    (room₀ : Room R (length d.now)) (gl : Is LedgerR l (ledger-vals l)) (room₁ : Room u8 (length m.now)) (room₂ : Room u8 (length s.now)) where
+    (room₀ : Room R (length d.now)) (gl : Is LedgerR l (ledger_vals l)) (room₁ : Room u8 (length m.now)) (room₂ : Room u8 (length s.now)) where
   open 𝓛 use {H}
 
   abbrev Arg : Type 0
@@ -163,7 +163,7 @@ module _ {M : Type 1} {𝓤 : Ura M} (𝓛 : Logic 𝓤) (mem : Memory → SProp
   v₂ = slice_val s.ref_ptr (length s.now)
 
   abbrev at : Vals planned.signature (κ₀, (κ₁, (κ₂, tt)))
-  at = (v₀ ∷ [], (ledger-vals l, (v₁ ∷ [], (v₂ ∷ [], tt))))
+  at = (v₀ ∷ [], (ledger_vals l, (v₁ ∷ [], (v₂ ∷ [], tt))))
 
   abbrev Own₀ : Fml
   Own₀ = (ShrSlice (named 0) κ₀ R).own_val d (v₀ ∷ [])
@@ -176,7 +176,7 @@ module _ {M : Type 1} {𝓤 : Ura M} (𝓛 : Logic 𝓤) (mem : Memory → SProp
 
   -- what the callees return
   abbrev roll : Roll
-  roll = rollOf d.now
+  roll = roll_of d.now
 
   -- the slice that the numbers are lent as, from the block b
   abbrev e : ℕ → GName → MutBor (List ℕ)
@@ -192,22 +192,22 @@ module _ {M : Type 1} {𝓤 : Ura M} (𝓛 : Logic 𝓤) (mem : Memory → SProp
   typed ns g = (Array-Lawful 𝓛 u16 (uint_Lawful 𝓛 w16) 32).typed ns (avals ns) g
 
   abbrev i : ℕ
-  i = placeNamed roll s.now
+  i = place_named roll s.now
 
   abbrev slot : Slot
-  slot = get_or d.now i freeSlot
+  slot = get_or d.now i free_slot
 
   abbrev p : Plan
-  p = planBy (length d.now) roll slot l m.now s.now
+  p = plan_by (length d.now) roll slot l m.now s.now
 
   abbrev Post : Val → SProp 𝓤
   Post = (walk_of 𝓛 planned.ended stayed (planned.clauses 𝓛 mem run)).post (((κ₀, (κ₁, (κ₂, tt))), (q₀, (q₁, (q₂, tt))), tt, a, at), tt)
 
-  exits : Is PlanR p (plan-vals p) → ent 𝓤 (⋆ 𝓛 (‵ (flft κ₀ q₀) ∷ ‵ (flft κ₁ q₁) ∷ ‵ (flft κ₂ q₂) ∷ ‵ Own₀ ∷ ‵ Own₁ ∷ ‵ Own₂ ∷ [])) (Post (plan-mach p))
+  exits : Is PlanR p (plan_vals p) → ent 𝓤 (⋆ 𝓛 (‵ (flft κ₀ q₀) ∷ ‵ (flft κ₁ q₁) ∷ ‵ (flft κ₂ q₂) ∷ ‵ Own₀ ∷ ‵ Own₁ ∷ ‵ Own₂ ∷ [])) (Post (plan_mach p))
   exits g =
       qed 𝓛 (‵ (flft κ₀ q₀) ∷ ‵ (flft κ₁ q₁) ∷ ‵ (flft κ₂ q₂) ∷ ‵ Own₀ ∷ ‵ Own₁ ∷ ‵ Own₂ ∷ []) ∵
-      suffices ! _ (ends_at 𝓛 planned.ended stayed (planned.clauses 𝓛 mem run) (((κ₀, (κ₁, (κ₂, tt))), (q₀, (q₁, (q₂, tt))), tt, a, at), tt) (plan-mach p) p (tt, (tt, (tt, (tt, tt)))) (tt, (tt, (tt, (tt, tt))))) $ says ! (plan-is l m.now d.now s.now) $
-      nothing ! $ move ! (3 ∷ 0 ∷ []) $ join ! $ move ! (2 ∷ 0 ∷ []) $ join ! $ move ! (1 ∷ 0 ∷ []) $ join ! $ frame ! $ nothing ! $ move ! (3 ∷ 0 ∷ []) $ fjoin ! $ move ! (2 ∷ 0 ∷ []) $ fjoin ! $ owned ! LedgerR (Is LedgerR) (ledger-makes 𝓛) l _ gl $ fjoin ! $ move ! (1 ∷ 0 ∷ []) $ fjoin ! $ frame ! $ owned ! PlanR (Is PlanR) (plan-makes 𝓛) p _ g $ done !
+      suffices ! _ (ends_at 𝓛 planned.ended stayed (planned.clauses 𝓛 mem run) (((κ₀, (κ₁, (κ₂, tt))), (q₀, (q₁, (q₂, tt))), tt, a, at), tt) (plan_mach p) p (tt, (tt, (tt, (tt, tt)))) (tt, (tt, (tt, (tt, tt))))) $ says ! (plan_is l m.now d.now s.now) $
+      nothing ! $ move ! (3 ∷ 0 ∷ []) $ join ! $ move ! (2 ∷ 0 ∷ []) $ join ! $ move ! (1 ∷ 0 ∷ []) $ join ! $ frame ! $ nothing ! $ move ! (3 ∷ 0 ∷ []) $ fjoin ! $ move ! (2 ∷ 0 ∷ []) $ fjoin ! $ owned ! LedgerR (Is LedgerR) (ledger_makes 𝓛) l _ gl $ fjoin ! $ move ! (1 ∷ 0 ∷ []) $ fjoin ! $ frame ! $ owned ! PlanR (Is PlanR) (plan_makes 𝓛) p _ g $ done !
 
   -- what each callee's triple binds outside, and that the caller has what it asks
   abbrev to-enter-all : ℕ → ℕ → GName → (EnterAll 𝓛 mem run).Ghost
@@ -225,11 +225,11 @@ module _ {M : Type 1} {𝓤 : Ura M} (𝓛 : Logic 𝓤) (mem : Memory → SProp
       qed 𝓛 [] ∵ nothing ! $ nothing ! $ owned ! R32 (Is R32) (Array-Makes 𝓛 u16 (uint_Makes 𝓛 w16) 32) roll.numbers _ gn $ fjoin ! $ owned ! bool (Is bool) (bool_Makes 𝓛) roll.sound _ gb $ fjoin ! $ move ! (1 ∷ 0 ∷ []) $ join ! $ frame ! $ done !
 
   abbrev to-named-roll : (Named 𝓛 mem run).Ghost
-  to-named-roll = (((κ₂, tt), (q₂, tt), tt, (roll, (s, tt)), (roll-vals roll, (v₂ ∷ [], tt))), tt)
+  to-named-roll = (((κ₂, tt), (q₂, tt), tt, (roll, (s, tt)), (roll_vals roll, (v₂ ∷ [], tt))), tt)
 
-  goes-named-roll : Is RollR roll (roll-vals roll) → ent 𝓤 (⋆ 𝓛 (‵ (flft κ₂ q₂) ∷ ‵ Own₂ ∷ [])) ((Named 𝓛 mem run).pre to-named-roll)
+  goes-named-roll : Is RollR roll (roll_vals roll) → ent 𝓤 (⋆ 𝓛 (‵ (flft κ₂ q₂) ∷ ‵ Own₂ ∷ [])) ((Named 𝓛 mem run).pre to-named-roll)
   goes-named-roll g =
-      qed 𝓛 (‵ (flft κ₂ q₂) ∷ ‵ Own₂ ∷ []) ∵ nothing ! $ move ! (1 ∷ 0 ∷ []) $ join ! $ nothing ! $ move ! (2 ∷ 0 ∷ []) $ fjoin ! $ owned ! RollR (Is RollR) (roll-makes 𝓛) roll _ g $ fjoin ! $ move ! (1 ∷ 0 ∷ []) $ join ! $ frame ! $ done !
+      qed 𝓛 (‵ (flft κ₂ q₂) ∷ ‵ Own₂ ∷ []) ∵ nothing ! $ move ! (1 ∷ 0 ∷ []) $ join ! $ nothing ! $ move ! (2 ∷ 0 ∷ []) $ fjoin ! $ owned ! RollR (Is RollR) (roll_makes 𝓛) roll _ g $ fjoin ! $ move ! (1 ∷ 0 ∷ []) $ join ! $ frame ! $ done !
 
   abbrev to_free : (Free 𝓛 mem run).Ghost
   to_free = ((tt, tt, tt, tt, tt), tt)
@@ -239,26 +239,26 @@ module _ {M : Type 1} {𝓤 : Ura M} (𝓛 : Logic 𝓤) (mem : Memory → SProp
       qed 𝓛 [] ∵ nothing ! $ nothing ! $ move ! (1 ∷ 0 ∷ []) $ join ! $ frame ! $ done !
 
   abbrev to-slot-at : (SlotAt 𝓛 mem run).Ghost
-  to-slot-at = (((κ₀, tt), (q₀, tt), tt, (d, (i, (freeSlot, tt))), (v₀ ∷ [], (vint w64 i ∷ [], (vals freeSlot, tt)))), tt)
+  to-slot-at = (((κ₀, tt), (q₀, tt), tt, (d, (i, (free_slot, tt))), (v₀ ∷ [], (vint w64 i ∷ [], (vals free_slot, tt)))), tt)
 
-  goes-slot-at : i < 2 ^ 64 → Is R freeSlot (vals freeSlot) → ent 𝓤 (⋆ 𝓛 (‵ (flft κ₀ q₀) ∷ ‵ Own₀ ∷ [])) ((SlotAt 𝓛 mem run).pre to-slot-at)
+  goes-slot-at : i < 2 ^ 64 → Is R free_slot (vals free_slot) → ent 𝓤 (⋆ 𝓛 (‵ (flft κ₀ q₀) ∷ ‵ Own₀ ∷ [])) ((SlotAt 𝓛 mem run).pre to-slot-at)
   goes-slot-at fits g =
-      qed 𝓛 (‵ (flft κ₀ q₀) ∷ ‵ Own₀ ∷ []) ∵ nothing ! $ move ! (1 ∷ 0 ∷ []) $ join ! $ nothing ! $ owned ! R (Is R) (slot-makes 𝓛) freeSlot _ g $ fjoin ! $ owned ! usize (Is usize) (uint_Makes 𝓛 w64) i _ (refl, fits) $ fjoin ! $ move ! (2 ∷ 0 ∷ []) $ fjoin ! $ move ! (1 ∷ 0 ∷ []) $ join ! $ frame ! $ done !
+      qed 𝓛 (‵ (flft κ₀ q₀) ∷ ‵ Own₀ ∷ []) ∵ nothing ! $ move ! (1 ∷ 0 ∷ []) $ join ! $ nothing ! $ owned ! R (Is R) (slot_makes 𝓛) free_slot _ g $ fjoin ! $ owned ! usize (Is usize) (uint_Makes 𝓛 w64) i _ (refl, fits) $ fjoin ! $ move ! (2 ∷ 0 ∷ []) $ fjoin ! $ move ! (1 ∷ 0 ∷ []) $ join ! $ frame ! $ done !
 
   abbrev to-decide : (Decide 𝓛 mem run).Ghost
-  to-decide = (((κ₁, (κ₂, tt)), (q₁, (q₂, tt)), tt, (length d.now, (roll, (slot, (l, (m, (s, tt)))))), (vint w64 (length d.now) ∷ [], (roll-vals roll, (vals slot, (ledger-vals l, (v₁ ∷ [], (v₂ ∷ [], tt))))))), tt)
+  to-decide = (((κ₁, (κ₂, tt)), (q₁, (q₂, tt)), tt, (length d.now, (roll, (slot, (l, (m, (s, tt)))))), (vint w64 (length d.now) ∷ [], (roll_vals roll, (vals slot, (ledger_vals l, (v₁ ∷ [], (v₂ ∷ [], tt))))))), tt)
 
-  goes-decide : Is RollR roll (roll-vals roll) → Is R slot (vals slot) → ent 𝓤 (⋆ 𝓛 (‵ (flft κ₁ q₁) ∷ ‵ (flft κ₂ q₂) ∷ ‵ Own₁ ∷ ‵ Own₂ ∷ [])) ((Decide 𝓛 mem run).pre to-decide)
+  goes-decide : Is RollR roll (roll_vals roll) → Is R slot (vals slot) → ent 𝓤 (⋆ 𝓛 (‵ (flft κ₁ q₁) ∷ ‵ (flft κ₂ q₂) ∷ ‵ Own₁ ∷ ‵ Own₂ ∷ [])) ((Decide 𝓛 mem run).pre to-decide)
   goes-decide gr gs =
-      qed 𝓛 (‵ (flft κ₁ q₁) ∷ ‵ (flft κ₂ q₂) ∷ ‵ Own₁ ∷ ‵ Own₂ ∷ []) ∵ nothing ! $ move ! (2 ∷ 0 ∷ []) $ join ! $ move ! (1 ∷ 0 ∷ []) $ join ! $ nothing ! $ move ! (3 ∷ 0 ∷ []) $ fjoin ! $ move ! (2 ∷ 0 ∷ []) $ fjoin ! $ owned ! LedgerR (Is LedgerR) (ledger-makes 𝓛) l _ gl $ fjoin ! $ owned ! R (Is R) (slot-makes 𝓛) slot _ gs $ fjoin ! $ owned ! RollR (Is RollR) (roll-makes 𝓛) roll _ gr $ fjoin ! $ owned ! usize (Is usize) (uint_Makes 𝓛 w64) (length d.now) _ (refl, room₀.0) $ fjoin ! $ move ! (1 ∷ 0 ∷ []) $ join ! $ frame ! $ done !
+      qed 𝓛 (‵ (flft κ₁ q₁) ∷ ‵ (flft κ₂ q₂) ∷ ‵ Own₁ ∷ ‵ Own₂ ∷ []) ∵ nothing ! $ move ! (2 ∷ 0 ∷ []) $ join ! $ move ! (1 ∷ 0 ∷ []) $ join ! $ nothing ! $ move ! (3 ∷ 0 ∷ []) $ fjoin ! $ move ! (2 ∷ 0 ∷ []) $ fjoin ! $ owned ! LedgerR (Is LedgerR) (ledger_makes 𝓛) l _ gl $ fjoin ! $ owned ! R (Is R) (slot_makes 𝓛) slot _ gs $ fjoin ! $ owned ! RollR (Is RollR) (roll_makes 𝓛) roll _ gr $ fjoin ! $ owned ! usize (Is usize) (uint_Makes 𝓛 w64) (length d.now) _ (refl, room₀.0) $ fjoin ! $ move ! (1 ∷ 0 ∷ []) $ join ! $ frame ! $ done !
 
   module _ (C : Calls 𝓤 H) (Λ : Loops 𝓤 H) (fm : FmC 𝓤 H 𝓛.laws C) (known-enter-all : Triple 𝓤 (C #desk·enter-all) (EnterAll 𝓛 mem run)) (known-by-roll : Triple 𝓤 (C #desk_scan·Roll·by) (By 𝓛 mem run)) (known-named-roll : Triple 𝓤 (C #desk_scan·Roll·named) (Named 𝓛 mem run)) (known-free : Triple 𝓤 (C #slot·Slot·free) (Free 𝓛 mem run)) (known-slot-at : Triple 𝓤 (C #desk·slot-at) (SlotAt 𝓛 mem run)) (known-decide : Triple 𝓤 (C #desk_rules·decide) (Decide 𝓛 mem run)) where
-    walk : ent 𝓤 (on_entry 𝓛 planned.signature (κ₀, (κ₁, (κ₂, tt))) (q₀, (q₁, (q₂, tt))) a at) (WpFn 𝓤 H C Λ code.function (v₀ ∷ ledger-mach l ∷ v₁ ∷ v₂ ∷ []) Post)
+    walk : ent 𝓤 (on_entry 𝓛 planned.signature (κ₀, (κ₁, (κ₂, tt))) (q₀, (q₁, (q₂, tt))) a at) (WpFn 𝓤 H C Λ code.function (v₀ ∷ ledger_mach l ∷ v₁ ∷ v₂ ∷ []) Post)
     walk =
         qed 𝓛 ((‵ (flft κ₀ q₀) ⊛ ‵ (flft κ₁ q₁) ⊛ ‵ (flft κ₂ q₂) ⊛ ‵ ftrue) ∷ ‵ (owns (ShrSlice (named 0) κ₀ R ∷ LedgerR ∷ ShrSlice (named 1) κ₁ u8 ∷ ShrSlice (named 2) κ₂ u8 ∷ []) a at) ∷ []) ∵
-        enter ! C Λ code.function (v₀ ∷ ledger-mach l ∷ v₁ ∷ v₂ ∷ []) _ $
+        enter ! C Λ code.function (v₀ ∷ ledger_mach l ∷ v₁ ∷ v₂ ∷ []) _ $
         alloc1 ! (λ l₀. alloc1 ! (λ l₁. alloc1 ! (λ l₂. alloc1 ! (λ l₃. alloc1 ! (λ l₄. alloc1 ! (λ l₅. alloc1 ! (λ l₆. alloc1 ! (λ l₇. alloc1 ! (λ l₈. alloc1 ! (λ l₉. alloc1 ! (λ l₁₀. alloc1 ! (λ l₁₁. alloc1 ! (λ l₁₂. alloc1 ! (λ l₁₃. alloc0 ! $ params1 ! $
-        pass1 ! (init ! 24 refl (tt, (tt, (record { fits = room₀.0 }, tt)))) $ pass1 ! (init ! 22 refl (ledger-typed 𝓛 l _ gl)) $ pass1 ! (init ! 20 refl (tt, (tt, (record { fits = room₁.0 }, tt)))) $ pass1 ! (init ! 18 refl (tt, (tt, (record { fits = room₂.0 }, tt)))) $ pass0 ! $
+        pass1 ! (init ! 24 refl (tt, (tt, (record { fits = room₀.0 }, tt)))) $ pass1 ! (init ! 22 refl (ledger_typed 𝓛 l _ gl)) $ pass1 ! (init ! 20 refl (tt, (tt, (record { fits = room₁.0 }, tt)))) $ pass1 ! (init ! 18 refl (tt, (tt, (record { fits = room₂.0 }, tt)))) $ pass0 ! $
         move ! (29 ∷ []) $ fsplit ! $ move ! (1 ∷ []) $ fsplit ! $ drop ! $ fsplit ! $ move ! (1 ∷ []) $ fsplit ! $ move ! (1 ∷ []) $ drop ! $ move ! (31 ∷ []) $ split ! $ move ! (1 ∷ []) $ split ! $ move ! (1 ∷ []) $ split ! $ move ! (1 ∷ []) $ drop ! $ move ! (2 ∷ 1 ∷ 0 ∷ 5 ∷ 4 ∷ 3 ∷ []) $
         -- [the three tokens; what the three slices own; _13; …; …; _0; …]. The numbers, and `enter_all`: they are lent as a slice, for a lifetime ν of the call
         owned ! u16 (Is u16) (uint_Makes 𝓛 w16) 0 (vint w16 0 ∷ []) (refl, omega arith) $ use1 𝓛 (‵ (R32.own_val zeros (avals zeros))) (Array-repeat 𝓛 u16 (uint_copy 𝓛 w16) 32 0 (vint w16 0)) $ facts ! R32 (Is R32) (shows 𝓛 R32) zeros (avals zeros) (λ g₀.
@@ -266,7 +266,7 @@ module _ {M : Type 1} {𝓤 : Ura M} (𝓛 : Logic 𝓤) (mem : Memory → SProp
         assigns ! (addr ! (from ! (stop !))) (from ! (stop !)) (init ! 14 refl (tt, tt)) $
         assigns ! (agg ! (and_then ! (load ! (from ! (stop !)) (look ! 14 refl)) (and_then ! (lit ! tt) (no_more !)))) (from ! (stop !)) (init ! 12 refl (tt, (tt, (record { fits = room.0 }, tt)))) $
         move ! (22 ∷ []) $ use1 𝓛 (‵ (cell_at full_share R32.mir (avals zeros) l₅ 0)) (𝓛.laws.at_raw full_share (ty_at 5 body.locals) l₅ 0 (amach zeros)) $ use1 𝓛 (‵ (part_at R32 full_share zeros l₅ 0)) (cell_in u16 32 𝓛 l₅ 0 (uint_vals w16) (uint_Makes 𝓛 w16) zeros g₀) $
-        lft_new ! tt (λ ν. move ! (1 ∷ []) $ use1 𝓛 (later (some (λ (γ : GName). ‵ ((MutSlice (named 1) (ν ∷ []) u16).own_val (e l₅ γ) (v l₅ ∷ [])) ⊛ ‵ (flent (ν ∷ []) (Held u16 32 l₅ 0 γ))))) (lends-whole u16 32 𝓛 l₅ 0 tt (named 1) (ν ∷ []) zeros room) $ await ! tt $ pick ! (λ γ. split ! $
+        lft_new ! tt (λ ν. move ! (1 ∷ []) $ use1 𝓛 (later (some (λ (γ : GName). ‵ ((MutSlice (named 1) (ν ∷ []) u16).own_val (e l₅ γ) (v l₅ ∷ [])) ⊛ ‵ (flent (ν ∷ []) (Held u16 32 l₅ 0 γ))))) (lends_whole u16 32 𝓛 l₅ 0 tt (named 1) (ν ∷ []) zeros room) $ await ! tt $ pick ! (λ γ. split ! $
         move ! (6 ∷ []) $ use1 𝓛 (‵ Own₀ ⊛ ‵ Own₀) ((shr_slice_copy 𝓛 (named 0) κ₀ R).twice d (v₀ ∷ [])) $ split ! $ move ! (5 ∷ 4 ∷ 0 ∷ 2 ∷ []) $ group ! 4 $ use1 𝓛 (raw ((EnterAll 𝓛 mem run).pre (to-enter-all ν l₅ γ))) (goes-enter-all ν l₅ γ) $
         calls_at ! fm (EnterAll 𝓛 mem run) known-enter-all (to-enter-all ν l₅ γ) (and_then ! (load ! (from ! (stop !)) (look ! 30 refl)) (and_then ! (load ! (from ! (stop !)) (look ! 13 refl)) (no_more !))) (λ w₁.
         use1 𝓛 (later (some (λ (r : Bool). ((‵ (flft κ₀ q₀) ⊛ ‵ (flft (ν ∷ []) full_share) ⊛ ‵ ftrue) ⊛ ‵ (bool.own_val r (w₁ ∷ []))) ⊛ raw (ensured 𝓛 enter-all.ended (enter-all.clauses 𝓛 mem run) (to-enter-all ν l₅ γ).0.0 (to-enter-all ν l₅ γ).0.3 tt r)))) (id⊢ 𝓤 _) $ await ! tt $ pick ! (λ r₁.
@@ -286,9 +286,9 @@ module _ {M : Type 1} {𝓤 : Ura M} (𝓛 : Logic 𝓤) (mem : Memory → SProp
         calls_at ! fm (By 𝓛 mem run) known-by-roll to-by-roll (and_then ! (load ! (from ! (stop !)) (look ! 22 refl)) (and_then ! (load ! (from ! (stop !)) (look ! 12 refl)) (no_more !))) (λ w₂.
         use1 𝓛 (later (some (λ (r : Roll). (‵ ftrue ⊛ ‵ (RollR.own_val r (w₂ ∷ []))) ⊛ raw (ensured 𝓛 by-roll.ended (by-roll.clauses 𝓛 mem run) to-by-roll.0.0 to-by-roll.0.3 tt r)))) (id⊢ 𝓤 _) $ await ! tt $ pick ! (λ r₂.
         split ! $ move ! (1 ∷ []) $ use1 𝓛 (raw (fact 𝓤 (r₂ ≡ roll))) (by_said 𝓛 mem run roll.sound roll.numbers r₂) $ heard ! (r₂ ≡ roll) (λ e₂. split ! $ drop ! $ rewrite ! 0 (λ (r : Roll). ‵ (RollR.own_val r (w₂ ∷ []))) e₂ refl $ facts ! RollR (Is RollR) (shows 𝓛 RollR) roll (w₂ ∷ []) (λ is₂.
-        land ! (from ! (stop !)) (init ! 19 refl (roll-typed 𝓛 roll _ is₂)) $ rewrite ! 19 (λ (u : Val). ‵ (fat full_share TRoll'.mir l₇ 0 u)) (ap only (roll-tells roll _ is₂)) refl $
+        land ! (from ! (stop !)) (init ! 19 refl (roll_typed 𝓛 roll _ is₂)) $ rewrite ! 19 (λ (u : Val). ‵ (fat full_share TRoll'.mir l₇ 0 u)) (ap only (roll_tells roll _ is₂)) refl $
         -- `Roll::named`
-        move ! (5 ∷ []) $ use1 𝓛 (‵ Own₂ ⊛ ‵ Own₂) ((shr_slice_copy 𝓛 (named 2) κ₂ u8).twice s (v₂ ∷ [])) $ split ! $ move ! (4 ∷ 0 ∷ []) $ use2 𝓛 (raw ((Named 𝓛 mem run).pre to-named-roll)) (goes-named-roll (subst (Is RollR roll) (roll-tells roll _ is₂) is₂)) $
+        move ! (5 ∷ []) $ use1 𝓛 (‵ Own₂ ⊛ ‵ Own₂) ((shr_slice_copy 𝓛 (named 2) κ₂ u8).twice s (v₂ ∷ [])) $ split ! $ move ! (4 ∷ 0 ∷ []) $ use2 𝓛 (raw ((Named 𝓛 mem run).pre to-named-roll)) (goes-named-roll (subst (Is RollR roll) (roll_tells roll _ is₂) is₂)) $
         calls_at ! fm (Named 𝓛 mem run) known-named-roll to-named-roll (and_then ! (load ! (from ! (stop !)) (look ! 19 refl)) (and_then ! (load ! (from ! (stop !)) (look ! 24 refl)) (no_more !))) (λ w₃.
         use1 𝓛 (later (some (λ (r : ℕ). ((‵ (flft κ₂ q₂) ⊛ ‵ ftrue) ⊛ ‵ (usize.own_val r (w₃ ∷ []))) ⊛ raw (ensured 𝓛 named-roll.ended (named-roll.clauses 𝓛 mem run) to-named-roll.0.0 to-named-roll.0.3 tt r)))) (id⊢ 𝓤 _) $ await ! tt $ pick ! (λ r₃.
         split ! $ move ! (1 ∷ []) $ use1 𝓛 (raw (fact 𝓤 (r₃ ≡ i))) (named-said 𝓛 mem run κ₂ roll s r₃) $ heard ! (r₃ ≡ i) (λ e₃. split ! $ move ! (1 ∷ []) $ rewrite ! 0 (λ (r : ℕ). ‵ (usize.own_val r (w₃ ∷ []))) e₃ refl $ facts ! usize (Is usize) (shows 𝓛 usize) (i) (w₃ ∷ []) (λ is₃.
@@ -297,23 +297,23 @@ module _ {M : Type 1} {𝓤 : Ura M} (𝓛 : Logic 𝓤) (mem : Memory → SProp
         use0 𝓛 (raw ((Free 𝓛 mem run).pre to_free)) goes-free $
         calls_at ! fm (Free 𝓛 mem run) known-free to_free (no_more !) (λ w₄.
         use1 𝓛 (later (some (λ (r : Slot). (‵ ftrue ⊛ ‵ (R.own_val r (w₄ ∷ []))) ⊛ raw (ensured 𝓛 free.ended (free.clauses 𝓛 mem run) to_free.0.0 to_free.0.3 tt r)))) (id⊢ 𝓤 _) $ await ! tt $ pick ! (λ r₄.
-        split ! $ move ! (1 ∷ []) $ use1 𝓛 (raw (fact 𝓤 (r₄ ≡ freeSlot))) (free-said 𝓛 mem run r₄) $ heard ! (r₄ ≡ freeSlot) (λ e₄. split ! $ drop ! $ rewrite ! 0 (λ (r : Slot). ‵ (R.own_val r (w₄ ∷ []))) e₄ refl $ facts ! R (Is R) (shows 𝓛 R) freeSlot (w₄ ∷ []) (λ is₄.
-        land ! (from ! (stop !)) (init ! 7 refl ((LL.lawful TSlot.the_type TSlot'.the_laws 𝓛).typed freeSlot _ is₄).0) $ rewrite ! 7 (λ (u : Val). ‵ (fat full_share TSlot'.mir l₁₃ 0 u)) (ap only (tells freeSlot _ is₄)) refl $
+        split ! $ move ! (1 ∷ []) $ use1 𝓛 (raw (fact 𝓤 (r₄ ≡ free_slot))) (free-said 𝓛 mem run r₄) $ heard ! (r₄ ≡ free_slot) (λ e₄. split ! $ drop ! $ rewrite ! 0 (λ (r : Slot). ‵ (R.own_val r (w₄ ∷ []))) e₄ refl $ facts ! R (Is R) (shows 𝓛 R) free_slot (w₄ ∷ []) (λ is₄.
+        land ! (from ! (stop !)) (init ! 7 refl ((LL.lawful TSlot.the_type TSlot'.the_laws 𝓛).typed free_slot _ is₄).0) $ rewrite ! 7 (λ (u : Val). ‵ (fat full_share TSlot'.mir l₁₃ 0 u)) (ap only (tells free_slot _ is₄)) refl $
         -- `slot_at`
-        move ! (4 ∷ []) $ use1 𝓛 (‵ Own₀ ⊛ ‵ Own₀) ((shr_slice_copy 𝓛 (named 0) κ₀ R).twice d (v₀ ∷ [])) $ split ! $ move ! (4 ∷ 0 ∷ []) $ use2 𝓛 (raw ((SlotAt 𝓛 mem run).pre to-slot-at)) (goes-slot-at is₃.1 (subst (Is R freeSlot) (tells freeSlot _ is₄) is₄)) $
+        move ! (4 ∷ []) $ use1 𝓛 (‵ Own₀ ⊛ ‵ Own₀) ((shr_slice_copy 𝓛 (named 0) κ₀ R).twice d (v₀ ∷ [])) $ split ! $ move ! (4 ∷ 0 ∷ []) $ use2 𝓛 (raw ((SlotAt 𝓛 mem run).pre to-slot-at)) (goes-slot-at is₃.1 (subst (Is R free_slot) (tells free_slot _ is₄) is₄)) $
         calls_at ! fm (SlotAt 𝓛 mem run) known-slot-at to-slot-at (and_then ! (load ! (from ! (stop !)) (look ! 30 refl)) (and_then ! (load ! (from ! (stop !)) (look ! 9 refl)) (and_then ! (load ! (from ! (stop !)) (look ! 7 refl)) (no_more !)))) (λ w₅.
         use1 𝓛 (later (some (λ (r : Slot). ((‵ (flft κ₀ q₀) ⊛ ‵ ftrue) ⊛ ‵ (R.own_val r (w₅ ∷ []))) ⊛ raw (ensured 𝓛 slot_at.ended (slot_at.clauses 𝓛 mem run) to-slot-at.0.0 to-slot-at.0.3 tt r)))) (id⊢ 𝓤 _) $ await ! tt $ pick ! (λ r₅.
-        split ! $ move ! (1 ∷ []) $ use1 𝓛 (raw (fact 𝓤 (r₅ ≡ slot))) (at-said 𝓛 mem run κ₀ d i freeSlot r₅) $ heard ! (r₅ ≡ slot) (λ e₅. split ! $ move ! (1 ∷ []) $ rewrite ! 0 (λ (r : Slot). ‵ (R.own_val r (w₅ ∷ []))) e₅ refl $ facts ! R (Is R) (shows 𝓛 R) (slot) (w₅ ∷ []) (λ is₅.
+        split ! $ move ! (1 ∷ []) $ use1 𝓛 (raw (fact 𝓤 (r₅ ≡ slot))) (at-said 𝓛 mem run κ₀ d i free_slot r₅) $ heard ! (r₅ ≡ slot) (λ e₅. split ! $ move ! (1 ∷ []) $ rewrite ! 0 (λ (r : Slot). ‵ (R.own_val r (w₅ ∷ []))) e₅ refl $ facts ! R (Is R) (shows 𝓛 R) (slot) (w₅ ∷ []) (λ is₅.
         land ! (from ! (stop !)) (init ! 17 refl ((LL.lawful TSlot.the_type TSlot'.the_laws 𝓛).typed slot _ is₅).0) $ rewrite ! 17 (λ (u : Val). ‵ (fat full_share TSlot'.mir l₈ 0 u)) (ap only (tells slot _ is₅)) refl $ split ! $ move ! (1 ∷ []) $ drop ! $
         -- the length, and `desk_rules::decide`
         assigns ! (of_opd ! (load ! (from ! (fld ! refl (stop !))) (look_in ! 30 (sub ! 1 refl (whole !))))) (from ! (stop !)) (store ! 9 refl (tt, record { fits = room₀.0 })) $
-        move ! (5 ∷ []) $ use1 𝓛 (‵ Own₁ ⊛ ‵ Own₁) ((shr_slice_copy 𝓛 (named 1) κ₁ u8).twice m (v₁ ∷ [])) $ split ! $ move ! (5 ∷ []) $ use1 𝓛 (‵ Own₂ ⊛ ‵ Own₂) ((shr_slice_copy 𝓛 (named 2) κ₂ u8).twice s (v₂ ∷ [])) $ split ! $ move ! (7 ∷ 6 ∷ 2 ∷ 0 ∷ []) $ group ! 4 $ use1 𝓛 (raw ((Decide 𝓛 mem run).pre to-decide)) (goes-decide (subst (Is RollR roll) (roll-tells roll _ is₂) is₂) (subst (Is R slot) (tells slot _ is₅) is₅)) $
+        move ! (5 ∷ []) $ use1 𝓛 (‵ Own₁ ⊛ ‵ Own₁) ((shr_slice_copy 𝓛 (named 1) κ₁ u8).twice m (v₁ ∷ [])) $ split ! $ move ! (5 ∷ []) $ use1 𝓛 (‵ Own₂ ⊛ ‵ Own₂) ((shr_slice_copy 𝓛 (named 2) κ₂ u8).twice s (v₂ ∷ [])) $ split ! $ move ! (7 ∷ 6 ∷ 2 ∷ 0 ∷ []) $ group ! 4 $ use1 𝓛 (raw ((Decide 𝓛 mem run).pre to-decide)) (goes-decide (subst (Is RollR roll) (roll_tells roll _ is₂) is₂) (subst (Is R slot) (tells slot _ is₅) is₅)) $
         calls_at ! fm (Decide 𝓛 mem run) known-decide to-decide (and_then ! (load ! (from ! (stop !)) (look ! 8 refl)) (and_then ! (load ! (from ! (stop !)) (look ! 18 refl)) (and_then ! (load ! (from ! (stop !)) (look ! 16 refl)) (and_then ! (load ! (from ! (stop !)) (look ! 27 refl)) (and_then ! (load ! (from ! (stop !)) (look ! 25 refl)) (and_then ! (load ! (from ! (stop !)) (look ! 23 refl)) (no_more !))))))) (λ w₆.
         use1 𝓛 (later (some (λ (r : Plan). ((‵ (flft κ₁ q₁) ⊛ ‵ (flft κ₂ q₂) ⊛ ‵ ftrue) ⊛ ‵ (PlanR.own_val r (w₆ ∷ []))) ⊛ raw (ensured 𝓛 decide.ended (decide.clauses 𝓛 mem run) to-decide.0.0 to-decide.0.3 tt r)))) (id⊢ 𝓤 _) $ await ! tt $ pick ! (λ r₆.
         split ! $ move ! (1 ∷ []) $ use1 𝓛 (raw (fact 𝓤 (r₆ ≡ p))) (decide-said 𝓛 mem run κ₁ κ₂ (length d.now) roll slot l m s r₆) $ heard ! (r₆ ≡ p) (λ e₆. split ! $ move ! (1 ∷ []) $ rewrite ! 0 (λ (r : Plan). ‵ (PlanR.own_val r (w₆ ∷ []))) e₆ refl $ facts ! PlanR (Is PlanR) (shows 𝓛 PlanR) (p) (w₆ ∷ []) (λ is₆.
-        land ! (from ! (stop !)) (init ! 31 refl (plan-typed 𝓛 p _ is₆)) $ rewrite ! 31 (λ (u : Val). ‵ (fat full_share TPlan'.mir l₀ 0 u)) (ap only (plan-tells p _ is₆)) refl $ split ! $ move ! (1 ∷ []) $ split ! $ move ! (1 ∷ []) $ drop ! $
+        land ! (from ! (stop !)) (init ! 31 refl (plan_typed 𝓛 p _ is₆)) $ rewrite ! 31 (λ (u : Val). ‵ (fat full_share TPlan'.mir l₀ 0 u)) (ap only (plan_tells p _ is₆)) refl $ split ! $ move ! (1 ∷ []) $ split ! $ move ! (1 ∷ []) $ drop ! $
         move ! (4 ∷ 1 ∷ 0 ∷ 5 ∷ 3 ∷ 2 ∷ []) $ returns ! (look ! 32 refl) $ forget ! 6 refl $ forget ! 7 refl $ forget ! 9 refl $ forget ! 11 refl $ forget ! 13 refl $ forget ! 15 refl $ forget ! 17 refl $ forget ! 19 refl $ forget ! 21 refl $ forget ! 24 refl $ forget ! 26 refl $ forget ! 28 refl $ forget ! 30 refl $ forget ! 32 refl $
-        move ! (32 ∷ 33 ∷ []) $ free1 ! $ move ! (30 ∷ 31 ∷ []) $ free1 ! $ move ! (28 ∷ 29 ∷ []) $ free1 ! $ move ! (26 ∷ 27 ∷ []) $ free1 ! $ move ! (24 ∷ 25 ∷ []) $ free1 ! $ move ! (6 ∷ 23 ∷ []) $ free1 ! $ move ! (20 ∷ 21 ∷ []) $ free1 ! $ move ! (18 ∷ 19 ∷ []) $ free1 ! $ move ! (16 ∷ 17 ∷ []) $ free1 ! $ move ! (14 ∷ 15 ∷ []) $ free1 ! $ move ! (12 ∷ 13 ∷ []) $ free1 ! $ move ! (10 ∷ 11 ∷ []) $ free1 ! $ move ! (8 ∷ 9 ∷ []) $ free1 ! $ move ! (6 ∷ 7 ∷ []) $ free1 ! $ free0 ! $ by ! (exits (subst (Is PlanR p) (plan-tells p _ is₆) is₆)))))))))))))))))))))))))))))))))))))))))))))
+        move ! (32 ∷ 33 ∷ []) $ free1 ! $ move ! (30 ∷ 31 ∷ []) $ free1 ! $ move ! (28 ∷ 29 ∷ []) $ free1 ! $ move ! (26 ∷ 27 ∷ []) $ free1 ! $ move ! (24 ∷ 25 ∷ []) $ free1 ! $ move ! (6 ∷ 23 ∷ []) $ free1 ! $ move ! (20 ∷ 21 ∷ []) $ free1 ! $ move ! (18 ∷ 19 ∷ []) $ free1 ! $ move ! (16 ∷ 17 ∷ []) $ free1 ! $ move ! (14 ∷ 15 ∷ []) $ free1 ! $ move ! (12 ∷ 13 ∷ []) $ free1 ! $ move ! (10 ∷ 11 ∷ []) $ free1 ! $ move ! (8 ∷ 9 ∷ []) $ free1 ! $ move ! (6 ∷ 7 ∷ []) $ free1 ! $ free0 ! $ by ! (exits (subst (Is PlanR p) (plan_tells p _ is₆) is₆)))))))))))))))))))))))))))))))))))))))))))))
 
 module _ {M : Type 1} {𝓤 : Ura M} (𝓛 : Logic 𝓤) (mem : Memory → SProp 𝓤) (run : Routine → Fun 𝓤) where
   open 𝓛 use {H}
@@ -328,8 +328,8 @@ module _ {M : Type 1} {𝓤 : Ura M} (𝓛 : Logic 𝓤) (mem : Memory → SProp
       → Walks 𝓛 planned.ended stayed (WpFn 𝓤 H C Λ code.function) (planned.clauses 𝓛 mem run)
   planned-walks C Λ fm known-enter-all known-by-roll known-named-roll known-free known-slot-at known-decide =
       walked 𝓛 planned.ended stayed (planned.clauses 𝓛 mem run) (WpFn 𝓤 H C Λ code.function)
-      (λ κs. (shr_slice_vals, (ledger-vals, (shr_slice_vals, (shr_slice_vals, tt)))))
-      (λ κs. (shr_slice_Tells (named 0) κs.0 R, (ledger-tells, (shr_slice_Tells (named 1) κs.1.0 u8, (shr_slice_Tells (named 2) κs.1.1.0 u8, tt)))))
+      (λ κs. (shr_slice_vals, (ledger_vals, (shr_slice_vals, (shr_slice_vals, tt)))))
+      (λ κs. (shr_slice_Tells (named 0) κs.0 R, (ledger_tells, (shr_slice_Tells (named 1) κs.1.0 u8, (shr_slice_Tells (named 2) κs.1.1.0 u8, tt)))))
       (λ κs qs bounds a g are. via 𝓤 _ (fst∗ 𝓤 _ (emp 𝓤)) (walk 𝓛 mem run κs.0 κs.1.0 κs.1.1.0 qs.0 qs.1.0 qs.1.1.0 a.0 a.1.0 a.1.1.0 a.1.1.1.0 are.0.0.1 are.1.0 are.1.1.0.0.1 are.1.1.1.0.0.1 C Λ fm known-enter-all known-by-roll known-named-roll known-free known-slot-at known-decide))
 
 planned-meets : {M : Type 1} {𝓤 : Ura M} (𝓛 : Logic 𝓤) (mem : Memory → SProp 𝓤) (run : Routine → Fun 𝓤) (𝓣 : Tables 𝓤 𝓛.H)

@@ -1,4 +1,4 @@
--- `desk::serve` meets its contract: a walk of its MIR, by hand, of a branch and four calls in a row. A desk of another length is left as it is (`other-served`, `other-map`, `other-desk`). All that it knows of the callees is that each meets its contract; what they come to is `plan-served`, `plan-map` and `plan-desk`.
+-- `desk::serve` meets its contract: a walk of its MIR, by hand, of a branch and four calls in a row. A desk of another length is left as it is (`other_served`, `other_map`, `other_desk`). All that it knows of the callees is that each meets its contract; what they come to is `plan_served`, `plan_map` and `plan_desk`.
 -- For `planned` the desk and the map are lent as `&`, each for a lifetime that the walk makes. To `slot_put` and `mark` the two slices go for good, each at its own lifetime, share and ghost name (`gave_slice`). The message is Copy.
 -- Assumes nothing.
 use mathlib.Core.Path.{◌≡◌, refl, sym, ◌∙◌, ap, subst}
@@ -43,24 +43,24 @@ use denote.Triple.Call.{calls_at}
 use denote.Triple.Clauses.{ensured, lasts}
 use denote.Triple.Table.{entered, cited}
 use Rattle.codes.specs.Codes.{rows, levels}
-use Rattle.used_numbers.specs.Marks.{markedWith}
+use Rattle.used_numbers.specs.Marks.{marked_with}
 use Rattle.ledger.specs.declared.Ledger.{Ledger}
 use Rattle.desk_rules.specs.declared.Served.{Served}
 use Rattle.desk_rules.specs.contracts.Served as TServed
 use Rattle.desk_rules.proofs.Served.TheLaws as TServed'
 use Rattle.slot.specs.declared.Slot.{Slot}
 use Rattle.slot.proofs.Slot.TheLaws as TSlot'
-use Rattle.desk_scan.specs.Desk.{slotCount}
+use Rattle.desk_scan.specs.Desk.{slot_count}
 use Rattle.desk_rules.specs.declared.Plan.{Plan}
-use Rattle.desk_rules.specs.Rules.{lookAt}
+use Rattle.desk_rules.specs.Rules.{look_at}
 use Rattle.desk_rules.specs.Plan.{plan_of}
-use Rattle.desk_rules.specs.Serve.{servedOf, mapServed, deskServed}
+use Rattle.desk_rules.specs.Serve.{served_of, map_served, desk_served}
 use Rattle.desk_rules.specs.contracts.Plan as TPlan
 use Rattle.desk_rules.proofs.Plan.TheLaws as TPlan'
-use Rattle.desk_rules.proofs.ServeLaws.{plan-served, plan-map, plan-desk, other-served, other-map, other-desk}
-use Rattle.desk.proofs.SlotLaws.{R, vals, ty_at, slot-makes}
-use Rattle.desk.proofs.Shared.{LentOut, lends_out, out-back, unused}
-use Rattle.desk.proofs.Rows.{LedgerR, ServedR, PlanR, ledger-mach, ledger-vals, ledger-tells, ledger-makes, ledger-typed, served-mach, served-vals, served-tells, served-makes, served-typed, plan-vals, plan-tells, plan-makes, plan-typed}
+use Rattle.desk_rules.proofs.ServeLaws.{plan_served, plan_map, plan_desk, other_served, other_map, other_desk}
+use Rattle.desk.proofs.SlotLaws.{R, vals, ty_at, slot_makes}
+use Rattle.desk.proofs.Shared.{LentOut, lends_out, out_back, unused}
+use Rattle.desk.proofs.Rows.{LedgerR, ServedR, PlanR, ledger_mach, ledger_vals, ledger_tells, ledger_makes, ledger_typed, served_mach, served_vals, served_tells, served_makes, served_typed, plan_vals, plan_tells, plan_makes, plan_typed}
 use Rattle.desk.specs.contracts.planned as planned
 use Rattle.desk.proofs.planned.Symbol as planned-def
 use Rattle.desk.proofs.planned.Symbol.{name as #desk·planned}
@@ -115,15 +115,15 @@ module _ {M : Type 1} {𝓤 : Ura M} (𝓛 : Logic 𝓤) (mem : Memory → SProp
   ServedBy = triple_of 𝓛 served-by.signature (served-by.spec 𝓛 mem run)
 
   -- of the `ensured` of `planned` and `served_by`, the clause alone
-  planned-said : (κ κ' κ'' : Lft) (d : Bor (List Slot)) (l : Ledger) (m s : Bor (List ℕ)) (r : Plan) → ent 𝓤 (ensured 𝓛 planned.ended (planned.clauses 𝓛 mem run) (κ, (κ', (κ'', tt))) (d, (l, (m, (s, tt)))) tt r) (fact 𝓤 (r ≡ plan_of (lookAt d.now s.now) (length d.now) l m.now s.now))
-  planned-said κ κ' κ'' d l m s r = ex_e 𝓤 _ (λ ws. snd∗ 𝓤 (sem 𝓛 (lasts planned.ended (κ, (κ', (κ'', tt))) (d, (l, (m, (s, tt)))) ws)) (fact 𝓤 (r ≡ plan_of (lookAt d.now s.now) (length d.now) l m.now s.now)))
+  planned-said : (κ κ' κ'' : Lft) (d : Bor (List Slot)) (l : Ledger) (m s : Bor (List ℕ)) (r : Plan) → ent 𝓤 (ensured 𝓛 planned.ended (planned.clauses 𝓛 mem run) (κ, (κ', (κ'', tt))) (d, (l, (m, (s, tt)))) tt r) (fact 𝓤 (r ≡ plan_of (look_at d.now s.now) (length d.now) l m.now s.now))
+  planned-said κ κ' κ'' d l m s r = ex_e 𝓤 _ (λ ws. snd∗ 𝓤 (sem 𝓛 (lasts planned.ended (κ, (κ', (κ'', tt))) (d, (l, (m, (s, tt)))) ws)) (fact 𝓤 (r ≡ plan_of (look_at d.now s.now) (length d.now) l m.now s.now)))
 
   served-said : (p : Plan) (r : Served) → ent 𝓤 (ensured 𝓛 served-by.ended (served-by.clauses 𝓛 mem run) tt (p, tt) tt r) (fact 𝓤 (r ≡ p.served))
   served-said p r = ex_e 𝓤 _ (λ ws. snd∗ 𝓤 (sem 𝓛 (lasts served-by.ended tt (p, tt) ws)) (fact 𝓤 (r ≡ p.served)))
 
 module _ {M : Type 1} {𝓤 : Ura M} (𝓛 : Logic 𝓤) (mem : Memory → SProp 𝓤) (run : Routine → Fun 𝓤) (κ₀ κ₁ κ₂ : Lft) (q₀ q₁ q₂ : Share) (l : Ledger)
     (b₀ c₀ : ℕ) (γ₀ : GName) (bs : List ℕ) (b₁ c₁ : ℕ) (γ₁ : GName) (ys : List Slot) (s : MutBor (List ℕ))
-    (gl : Is LedgerR l (ledger-vals l)) (room₀ : Room u8 (length bs)) (room₁ : Room R (length ys)) (room₂ : Room u8 (length s.now)) where
+    (gl : Is LedgerR l (ledger_vals l)) (room₀ : Room u8 (length bs)) (room₁ : Room R (length ys)) (room₂ : Room u8 (length s.now)) where
   -- the map and the desk under the name δ
   open 𝓛 use {H}
 
@@ -150,7 +150,7 @@ module _ {M : Type 1} {𝓤 : Ura M} (𝓛 : Logic 𝓤) (mem : Memory → SProp
   v₂ = slice_val s.ref_ptr (length s.now)
 
   abbrev at : Vals serve.signature (κ₀, (κ₁, (κ₂, tt)))
-  at = (ledger-vals l, (v₀ ∷ [], (v₁ ∷ [], (v₂ ∷ [], tt))))
+  at = (ledger_vals l, (v₀ ∷ [], (v₁ ∷ [], (v₂ ∷ [], tt))))
 
   abbrev Own₀ : Fml
   Own₀ = (MutSlice (named 0) κ₀ u8).own_val (m γ₀) (v₀ ∷ [])
@@ -163,43 +163,43 @@ module _ {M : Type 1} {𝓤 : Ura M} (𝓛 : Logic 𝓤) (mem : Memory → SProp
 
   -- what `planned` returns
   abbrev p : Plan
-  p = plan_of (lookAt ys s.now) (length ys) l bs s.now
+  p = plan_of (look_at ys s.now) (length ys) l bs s.now
 
   abbrev Post : Val → SProp 𝓤
   Post = (walk_of 𝓛 serve.ended stayed (serve.clauses 𝓛 mem run)).post (((κ₀, (κ₁, (κ₂, tt))), (q₀, (q₁, (q₂, tt))), tt, a, at), tt)
 
-  exits : (r : Served) (cs : List ℕ) (zs : List Slot) → r ≡ servedOf l bs ys s.now → cs ≡ mapServed l bs ys s.now → zs ≡ deskServed l bs ys s.now → length cs ≡ length bs → length zs ≡ length ys → Is ServedR r (served-vals r)
-      → ent 𝓤 (⋆ 𝓛 (‵ (flft κ₀ q₀) ∷ ‵ (flft κ₁ q₁) ∷ ‵ (flft κ₂ q₂) ∷ ‵ (finally u8 γ₀ cs) ∷ ‵ (finally R γ₁ zs) ∷ ‵ Own₂ ∷ [])) (Post (served-mach r))
+  exits : (r : Served) (cs : List ℕ) (zs : List Slot) → r ≡ served_of l bs ys s.now → cs ≡ map_served l bs ys s.now → zs ≡ desk_served l bs ys s.now → length cs ≡ length bs → length zs ≡ length ys → Is ServedR r (served_vals r)
+      → ent 𝓤 (⋆ 𝓛 (‵ (flft κ₀ q₀) ∷ ‵ (flft κ₁ q₁) ∷ ‵ (flft κ₂ q₂) ∷ ‵ (finally u8 γ₀ cs) ∷ ‵ (finally R γ₁ zs) ∷ ‵ Own₂ ∷ [])) (Post (served_mach r))
   exits r cs zs e e₀ e₁ n₀ n₁ g =
       qed 𝓛 (‵ (flft κ₀ q₀) ∷ ‵ (flft κ₁ q₁) ∷ ‵ (flft κ₂ q₂) ∷ ‵ (finally u8 γ₀ cs) ∷ ‵ (finally R γ₁ zs) ∷ ‵ Own₂ ∷ []) ∵
-      suffices ! _ (ends_at 𝓛 serve.ended stayed (serve.clauses 𝓛 mem run) (((κ₀, (κ₁, (κ₂, tt))), (q₀, (q₁, (q₂, tt))), tt, a, at), tt) (served-mach r) r (tt, (cs, (zs, (tt, tt)))) (tt, (n₀, (n₁, (tt, tt))))) $
+      suffices ! _ (ends_at 𝓛 serve.ended stayed (serve.clauses 𝓛 mem run) (((κ₀, (κ₁, (κ₂, tt))), (q₀, (q₁, (q₂, tt))), tt, a, at), tt) (served_mach r) r (tt, (cs, (zs, (tt, tt)))) (tt, (n₀, (n₁, (tt, tt))))) $
       says ! (e, e₀, e₁) $
-      nothing ! $ move ! (3 ∷ 0 ∷ []) $ join ! $ move ! (2 ∷ 0 ∷ []) $ join ! $ move ! (1 ∷ 0 ∷ []) $ join ! $ frame ! $ nothing ! $ move ! (3 ∷ 0 ∷ []) $ fjoin ! $ move ! (2 ∷ 0 ∷ []) $ fjoin ! $ move ! (1 ∷ 0 ∷ []) $ fjoin ! $ owned ! LedgerR (Is LedgerR) (ledger-makes 𝓛) l _ gl $ fjoin ! $ frame ! $ owned ! ServedR (Is ServedR) (served-makes 𝓛) r _ g $ done !
+      nothing ! $ move ! (3 ∷ 0 ∷ []) $ join ! $ move ! (2 ∷ 0 ∷ []) $ join ! $ move ! (1 ∷ 0 ∷ []) $ join ! $ frame ! $ nothing ! $ move ! (3 ∷ 0 ∷ []) $ fjoin ! $ move ! (2 ∷ 0 ∷ []) $ fjoin ! $ move ! (1 ∷ 0 ∷ []) $ fjoin ! $ owned ! LedgerR (Is LedgerR) (ledger_makes 𝓛) l _ gl $ fjoin ! $ frame ! $ owned ! ServedR (Is ServedR) (served_makes 𝓛) r _ g $ done !
 
   -- what a desk of another length is answered
   abbrev refusal : Served
   refusal = record { answer = 1; ledger = l }
 
-  refusal_is : Is ServedR refusal (served-vals refusal)
+  refusal_is : Is ServedR refusal (served_vals refusal)
   refusal_is = LL.owes TServed.the_type TServed'.the_laws refusal ((refl, lit< tt), (gl, tt))
 
-  not-slots : T (not (eqb (length ys) slotCount)) → length ys ≢ slotCount
-  not-slots other e = subst (λ (n : ℕ). T (not (eqb n slotCount))) e other
+  not-slots : T (not (eqb (length ys) slot_count)) → length ys ≢ slot_count
+  not-slots other e = subst (λ (n : ℕ). T (not (eqb n slot_count))) e other
 
   -- what each callee's triple binds outside, and that the caller has what it asks
   abbrev to-planned : ℕ → GName → ℕ → GName → (Planned 𝓛 mem run).Ghost
-  to-planned ν₀ δ₀ ν₁ δ₁ = (((ν₁ ∷ [], (ν₀ ∷ [], (κ₂, tt))), (full_share, (full_share, (q₂, tt))), tt, (d δ₁, (l, (m δ₀, (s, tt)))), (v₁ ∷ [], (ledger-vals l, (v₀ ∷ [], (v₂ ∷ [], tt))))), tt)
+  to-planned ν₀ δ₀ ν₁ δ₁ = (((ν₁ ∷ [], (ν₀ ∷ [], (κ₂, tt))), (full_share, (full_share, (q₂, tt))), tt, (d δ₁, (l, (m δ₀, (s, tt)))), (v₁ ∷ [], (ledger_vals l, (v₀ ∷ [], (v₂ ∷ [], tt))))), tt)
 
   goes-planned : (ν₀ : ℕ) (δ₀ : GName) (ν₁ : ℕ) (δ₁ : GName) → ent 𝓤 (⋆ 𝓛 (‵ (flft (ν₁ ∷ []) full_share) ∷ ‵ (flft (ν₀ ∷ []) full_share) ∷ ‵ (flft κ₂ q₂) ∷ ‵ ((ShrSlice (named 0) (ν₁ ∷ []) R).own_val (d δ₁) (v₁ ∷ [])) ∷ ‵ ((ShrSlice (named 1) (ν₀ ∷ []) u8).own_val (m δ₀) (v₀ ∷ [])) ∷ ‵ Own₂ ∷ [])) ((Planned 𝓛 mem run).pre (to-planned ν₀ δ₀ ν₁ δ₁))
   goes-planned ν₀ δ₀ ν₁ δ₁ =
-      qed 𝓛 (‵ (flft (ν₁ ∷ []) full_share) ∷ ‵ (flft (ν₀ ∷ []) full_share) ∷ ‵ (flft κ₂ q₂) ∷ ‵ ((ShrSlice (named 0) (ν₁ ∷ []) R).own_val (d δ₁) (v₁ ∷ [])) ∷ ‵ ((ShrSlice (named 1) (ν₀ ∷ []) u8).own_val (m δ₀) (v₀ ∷ [])) ∷ ‵ Own₂ ∷ []) ∵ nothing ! $ move ! (3 ∷ 0 ∷ []) $ join ! $ move ! (2 ∷ 0 ∷ []) $ join ! $ move ! (1 ∷ 0 ∷ []) $ join ! $ nothing ! $ move ! (4 ∷ 0 ∷ []) $ fjoin ! $ move ! (3 ∷ 0 ∷ []) $ fjoin ! $ owned ! LedgerR (Is LedgerR) (ledger-makes 𝓛) l _ gl $ fjoin ! $ move ! (2 ∷ 0 ∷ []) $ fjoin ! $ move ! (1 ∷ 0 ∷ []) $ join ! $ frame ! $ done !
+      qed 𝓛 (‵ (flft (ν₁ ∷ []) full_share) ∷ ‵ (flft (ν₀ ∷ []) full_share) ∷ ‵ (flft κ₂ q₂) ∷ ‵ ((ShrSlice (named 0) (ν₁ ∷ []) R).own_val (d δ₁) (v₁ ∷ [])) ∷ ‵ ((ShrSlice (named 1) (ν₀ ∷ []) u8).own_val (m δ₀) (v₀ ∷ [])) ∷ ‵ Own₂ ∷ []) ∵ nothing ! $ move ! (3 ∷ 0 ∷ []) $ join ! $ move ! (2 ∷ 0 ∷ []) $ join ! $ move ! (1 ∷ 0 ∷ []) $ join ! $ nothing ! $ move ! (4 ∷ 0 ∷ []) $ fjoin ! $ move ! (3 ∷ 0 ∷ []) $ fjoin ! $ owned ! LedgerR (Is LedgerR) (ledger_makes 𝓛) l _ gl $ fjoin ! $ move ! (2 ∷ 0 ∷ []) $ fjoin ! $ move ! (1 ∷ 0 ∷ []) $ join ! $ frame ! $ done !
 
   abbrev to-slot-put : (SlotPut 𝓛 mem run).Ghost
   to-slot-put = (((κ₁, tt), (q₁, tt), tt, (d γ₁, (p.at, (p.slot, tt))), (v₁ ∷ [], (vint w64 p.at ∷ [], (vals p.slot, tt)))), tt)
 
   goes-slot-put : p.at < 2 ^ 64 → Is R p.slot (vals p.slot) → ent 𝓤 (⋆ 𝓛 (‵ (flft κ₁ q₁) ∷ ‵ Own₁ ∷ [])) ((SlotPut 𝓛 mem run).pre to-slot-put)
   goes-slot-put fits g =
-      qed 𝓛 (‵ (flft κ₁ q₁) ∷ ‵ Own₁ ∷ []) ∵ nothing ! $ move ! (1 ∷ 0 ∷ []) $ join ! $ nothing ! $ owned ! R (Is R) (slot-makes 𝓛) p.slot _ g $ fjoin ! $ owned ! usize (Is usize) (uint_Makes 𝓛 w64) p.at _ (refl, fits) $ fjoin ! $ move ! (2 ∷ 0 ∷ []) $ fjoin ! $ move ! (1 ∷ 0 ∷ []) $ join ! $ frame ! $ done !
+      qed 𝓛 (‵ (flft κ₁ q₁) ∷ ‵ Own₁ ∷ []) ∵ nothing ! $ move ! (1 ∷ 0 ∷ []) $ join ! $ nothing ! $ owned ! R (Is R) (slot_makes 𝓛) p.slot _ g $ fjoin ! $ owned ! usize (Is usize) (uint_Makes 𝓛 w64) p.at _ (refl, fits) $ fjoin ! $ move ! (2 ∷ 0 ∷ []) $ fjoin ! $ move ! (1 ∷ 0 ∷ []) $ join ! $ frame ! $ done !
 
   abbrev to-mark : (Mark 𝓛 mem run).Ghost
   to-mark = (((κ₀, tt), (q₀, tt), tt, (m γ₀, (p.number, tt)), (v₀ ∷ [], (vint w16 p.number ∷ [], tt))), tt)
@@ -209,11 +209,11 @@ module _ {M : Type 1} {𝓤 : Ura M} (𝓛 : Logic 𝓤) (mem : Memory → SProp
       qed 𝓛 (‵ (flft κ₀ q₀) ∷ ‵ Own₀ ∷ []) ∵ nothing ! $ move ! (1 ∷ 0 ∷ []) $ join ! $ nothing ! $ owned ! u16 (Is u16) (uint_Makes 𝓛 w16) p.number _ (refl, fits) $ fjoin ! $ move ! (2 ∷ 0 ∷ []) $ fjoin ! $ move ! (1 ∷ 0 ∷ []) $ join ! $ frame ! $ done !
 
   abbrev to-served-by : (ServedBy 𝓛 mem run).Ghost
-  to-served-by = ((tt, tt, tt, (p, tt), (plan-vals p, tt)), tt)
+  to-served-by = ((tt, tt, tt, (p, tt), (plan_vals p, tt)), tt)
 
-  goes-served-by : Is PlanR p (plan-vals p) → ent 𝓤 (⋆ 𝓛 []) ((ServedBy 𝓛 mem run).pre to-served-by)
+  goes-served-by : Is PlanR p (plan_vals p) → ent 𝓤 (⋆ 𝓛 []) ((ServedBy 𝓛 mem run).pre to-served-by)
   goes-served-by g =
-      qed 𝓛 [] ∵ nothing ! $ nothing ! $ owned ! PlanR (Is PlanR) (plan-makes 𝓛) p _ g $ fjoin ! $ move ! (1 ∷ 0 ∷ []) $ join ! $ frame ! $ done !
+      qed 𝓛 [] ∵ nothing ! $ nothing ! $ owned ! PlanR (Is PlanR) (plan_makes 𝓛) p _ g $ fjoin ! $ move ! (1 ∷ 0 ∷ []) $ join ! $ frame ! $ done !
 
   -- the locals
   abbrev E : ℕ → ℕ → ℕ → ℕ → ℕ → ℕ → ℕ → ℕ → ℕ → ℕ → ℕ → ℕ → ℕ → ℕ → ℕ → ℕ → ℕ → Env 𝓤 H
@@ -221,12 +221,12 @@ module _ {M : Type 1} {𝓤 : Ura M} (𝓛 : Logic 𝓤) (mem : Memory → SProp
       (ty_at 0 body.locals, l₀) ∷ (ty_at 1 body.locals, l₁) ∷ (ty_at 2 body.locals, l₂) ∷ (ty_at 3 body.locals, l₃) ∷ (ty_at 4 body.locals, l₄) ∷ (ty_at 5 body.locals, l₅) ∷ (ty_at 6 body.locals, l₆) ∷ (ty_at 7 body.locals, l₇) ∷ (ty_at 8 body.locals, l₈) ∷ (ty_at 9 body.locals, l₉) ∷ (ty_at 10 body.locals, l₁₀) ∷ (ty_at 11 body.locals, l₁₁) ∷ (ty_at 12 body.locals, l₁₂) ∷ (ty_at 13 body.locals, l₁₃) ∷ (ty_at 14 body.locals, l₁₄) ∷ (ty_at 15 body.locals, l₁₅) ∷ (ty_at 16 body.locals, l₁₆) ∷ []
 
   module _ (C : Calls 𝓤 H) (Λ : Loops 𝓤 H) (fm : FmC 𝓤 H 𝓛.laws C) (known-planned : Triple 𝓤 (C #desk·planned) (Planned 𝓛 mem run)) (known-slot-put : Triple 𝓤 (C #desk·slot-put) (SlotPut 𝓛 mem run)) (known-mark : Triple 𝓤 (C #used_numbers·mark) (Mark 𝓛 mem run)) (known-served-by : Triple 𝓤 (C #desk_rules·served-by) (ServedBy 𝓛 mem run)) where
-    walk : ent 𝓤 (on_entry 𝓛 serve.signature (κ₀, (κ₁, (κ₂, tt))) (q₀, (q₁, (q₂, tt))) a at) (WpFn 𝓤 H C Λ code.function (ledger-mach l ∷ v₀ ∷ v₁ ∷ v₂ ∷ []) Post)
+    walk : ent 𝓤 (on_entry 𝓛 serve.signature (κ₀, (κ₁, (κ₂, tt))) (q₀, (q₁, (q₂, tt))) a at) (WpFn 𝓤 H C Λ code.function (ledger_mach l ∷ v₀ ∷ v₁ ∷ v₂ ∷ []) Post)
     walk =
         qed 𝓛 ((‵ (flft κ₀ q₀) ⊛ ‵ (flft κ₁ q₁) ⊛ ‵ (flft κ₂ q₂) ⊛ ‵ ftrue) ∷ ‵ (owns (LedgerR ∷ MutSlice (named 0) κ₀ u8 ∷ MutSlice (named 1) κ₁ R ∷ ShrSlice (named 2) κ₂ u8 ∷ []) a at) ∷ []) ∵
-        enter ! C Λ code.function (ledger-mach l ∷ v₀ ∷ v₁ ∷ v₂ ∷ []) _ $
+        enter ! C Λ code.function (ledger_mach l ∷ v₀ ∷ v₁ ∷ v₂ ∷ []) _ $
         alloc1 ! (λ l₀. alloc1 ! (λ l₁. alloc1 ! (λ l₂. alloc1 ! (λ l₃. alloc1 ! (λ l₄. alloc1 ! (λ l₅. alloc1 ! (λ l₆. alloc1 ! (λ l₇. alloc1 ! (λ l₈. alloc1 ! (λ l₉. alloc1 ! (λ l₁₀. alloc1 ! (λ l₁₁. alloc1 ! (λ l₁₂. alloc1 ! (λ l₁₃. alloc1 ! (λ l₁₄. alloc1 ! (λ l₁₅. alloc1 ! (λ l₁₆. alloc0 ! $ params1 ! $
-        pass1 ! (init ! 30 refl (ledger-typed 𝓛 l _ gl)) $ pass1 ! (init ! 28 refl (tt, (tt, (record { fits = room₀.0 }, tt)))) $ pass1 ! (init ! 26 refl (tt, (tt, (record { fits = room₁.0 }, tt)))) $ pass1 ! (init ! 24 refl (tt, (tt, (record { fits = room₂.0 }, tt)))) $ pass0 ! $
+        pass1 ! (init ! 30 refl (ledger_typed 𝓛 l _ gl)) $ pass1 ! (init ! 28 refl (tt, (tt, (record { fits = room₀.0 }, tt)))) $ pass1 ! (init ! 26 refl (tt, (tt, (record { fits = room₁.0 }, tt)))) $ pass1 ! (init ! 24 refl (tt, (tt, (record { fits = room₂.0 }, tt)))) $ pass0 ! $
         move ! (35 ∷ []) $ fsplit ! $ drop ! $ fsplit ! $ move ! (1 ∷ []) $ fsplit ! $ move ! (1 ∷ []) $ fsplit ! $ move ! (1 ∷ []) $ drop ! $ move ! (37 ∷ []) $ split ! $ move ! (1 ∷ []) $ split ! $ move ! (1 ∷ []) $ split ! $ move ! (1 ∷ []) $ drop ! $ move ! (2 ∷ 1 ∷ 0 ∷ 5 ∷ 4 ∷ 3 ∷ []) $
         -- [the three tokens; what map, desk and message own; _16; …; …; _0; …]: the local i stands at 6 + 2 · (16 − i). The length is looked at first
         assigns ! (of_opd ! (load ! (from ! (fld ! refl (stop !))) (look_in ! 32 (sub ! 1 refl (whole !))))) (from ! (stop !)) (init ! 26 refl (tt, record { fits = room₁.0 })) $
@@ -234,11 +234,11 @@ module _ {M : Type 1} {𝓤 : Ura M} (𝓛 : Logic 𝓤) (mem : Memory → SProp
         first ! $ branches ! (load ! (from ! (stop !)) (look ! 24 refl))
         -- another length: nothing is done
         (λ other. let differs = not-slots other in
-        assigns ! (agg ! (and_then ! (lit ! tt) (and_then ! (load ! (from ! (stop !)) (look ! 36 refl)) (no_more !)))) (from ! (stop !)) (init ! 38 refl (served-typed 𝓛 refusal _ refusal_is)) $
+        assigns ! (agg ! (and_then ! (lit ! tt) (and_then ! (load ! (from ! (stop !)) (look ! 36 refl)) (no_more !)))) (from ! (stop !)) (init ! 38 refl (served_typed 𝓛 refusal _ refusal_is)) $
         returns_within ! Post refl (look ! 38 refl) $ forget ! 24 refl $ forget ! 26 refl $ forget ! 30 refl $ forget ! 32 refl $ forget ! 34 refl $ forget ! 36 refl $ forget ! 38 refl $
         move ! (38 ∷ 39 ∷ []) $ free1 ! $ move ! (36 ∷ 37 ∷ []) $ free1 ! $ move ! (34 ∷ 35 ∷ []) $ free1 ! $ move ! (32 ∷ 33 ∷ []) $ free1 ! $ move ! (30 ∷ 31 ∷ []) $ free1 ! $ move ! (28 ∷ 29 ∷ []) $ free1 ! $ move ! (26 ∷ 27 ∷ []) $ free1 ! $ move ! (24 ∷ 25 ∷ []) $ free1 ! $ move ! (22 ∷ 23 ∷ []) $ free1 ! $ move ! (20 ∷ 21 ∷ []) $ free1 ! $ move ! (18 ∷ 19 ∷ []) $ free1 ! $ move ! (16 ∷ 17 ∷ []) $ free1 ! $ move ! (14 ∷ 15 ∷ []) $ free1 ! $ move ! (12 ∷ 13 ∷ []) $ free1 ! $ move ! (10 ∷ 11 ∷ []) $ free1 ! $ move ! (8 ∷ 9 ∷ []) $ free1 ! $ move ! (6 ∷ 7 ∷ []) $ free1 ! $ free0 ! $
         move ! (3 ∷ []) $ use1 𝓛 (‵ (finally u8 γ₀ bs)) (unused 𝓛 (named 0) κ₀ u8 (m γ₀) (v₀ ∷ [])) $ move ! (4 ∷ []) $ use1 𝓛 (‵ (finally R γ₁ ys)) (unused 𝓛 (named 1) κ₁ R (d γ₁) (v₁ ∷ [])) $ move ! (2 ∷ 3 ∷ 4 ∷ 1 ∷ 0 ∷ []) $
-        by ! (exits refusal bs ys (sym (other-served l bs ys s.now differs)) (sym (other-map l bs ys s.now differs)) (sym (other-desk l bs ys s.now differs)) refl refl refusal_is))
+        by ! (exits refusal bs ys (sym (other_served l bs ys s.now differs)) (sym (other_map l bs ys s.now differs)) (sym (other_desk l bs ys s.now differs)) refl refl refusal_is))
         (λ same. skips ! $ exec ! C Λ (E l₀ l₁ l₂ l₃ l₄ l₅ l₆ l₇ l₈ l₉ l₁₀ l₁₁ l₁₂ l₁₃ l₁₄ l₁₅ l₁₆) body.t-4 (at_ret (E l₀ l₁ l₂ l₃ l₄ l₅ l₆ l₇ l₈ l₉ l₁₀ l₁₁ l₁₂ l₁₃ l₁₄ l₁₅ l₁₆) Post) $
         -- `planned`: desk and map are lent as `&` for lifetimes ν₁ and ν₀ of the call
         assigns ! (addr ! (from ! (fld ! refl (hop ! (look_in ! 32 (sub ! 0 refl (whole !))) (stop !))))) (from ! (stop !)) (init ! 22 refl (tt, tt)) $
@@ -253,9 +253,9 @@ module _ {M : Type 1} {𝓤 : Ura M} (𝓛 : Logic 𝓤) (mem : Memory → SProp
         calls_at ! fm (Planned 𝓛 mem run) known-planned (to-planned ν₀ δ₀ ν₁ δ₁) (and_then ! (load ! (from ! (stop !)) (look ! 18 refl)) (and_then ! (load ! (from ! (stop !)) (look ! 34 refl)) (and_then ! (load ! (from ! (stop !)) (look ! 14 refl)) (and_then ! (load ! (from ! (stop !)) (look ! 28 refl)) (no_more !))))) (λ w₁.
         use1 𝓛 (later (some (λ (r : Plan). ((‵ (flft (ν₁ ∷ []) full_share) ⊛ ‵ (flft (ν₀ ∷ []) full_share) ⊛ ‵ (flft κ₂ q₂) ⊛ ‵ ftrue) ⊛ ‵ (PlanR.own_val r (w₁ ∷ []))) ⊛ raw (ensured 𝓛 planned.ended (planned.clauses 𝓛 mem run) (to-planned ν₀ δ₀ ν₁ δ₁).0.0 (to-planned ν₀ δ₀ ν₁ δ₁).0.3 tt r)))) (id⊢ 𝓤 _) $ await ! tt $ pick ! (λ r₁.
         split ! $ move ! (1 ∷ []) $ use1 𝓛 (raw (fact 𝓤 (r₁ ≡ p))) (planned-said 𝓛 mem run (ν₁ ∷ []) (ν₀ ∷ []) κ₂ (d δ₁) l (m δ₀) s r₁) $ heard ! (r₁ ≡ p) (λ e₁. split ! $ move ! (1 ∷ []) $ rewrite ! 0 (λ (r : Plan). ‵ (PlanR.own_val r (w₁ ∷ []))) e₁ refl $ facts ! PlanR (Is PlanR) (shows 𝓛 PlanR) (p) (w₁ ∷ []) (λ is₁.
-        land ! (from ! (stop !)) (init ! 26 refl (plan-typed 𝓛 p _ is₁)) $ rewrite ! 26 (λ (u : Val). ‵ (fat full_share TPlan'.mir l₅ 0 u)) (ap only (plan-tells p _ is₁)) refl $ split ! $ move ! (1 ∷ []) $ split ! $ move ! (1 ∷ []) $ split ! $ move ! (1 ∷ []) $ drop ! $
-        move ! (2 ∷ []) $ lft_end ! tt $ move ! (0 ∷ 5 ∷ []) $ use2 𝓛 (later (‵ Own₁ ⊛ ‵ (flft κ₁ q₁))) (out-back R κ₁ (ν₁ ∷ []) q₁ γ₁ b₁ c₁ ys 𝓛 (named 1) (named 0) room₁) $ await ! tt $ split ! $
-        move ! (3 ∷ []) $ lft_end ! tt $ move ! (0 ∷ 5 ∷ []) $ use2 𝓛 (later (‵ Own₀ ⊛ ‵ (flft κ₀ q₀))) (out-back u8 κ₀ (ν₀ ∷ []) q₀ γ₀ b₀ c₀ bs 𝓛 (named 0) (named 1) room₀) $ await ! tt $ split ! $
+        land ! (from ! (stop !)) (init ! 26 refl (plan_typed 𝓛 p _ is₁)) $ rewrite ! 26 (λ (u : Val). ‵ (fat full_share TPlan'.mir l₅ 0 u)) (ap only (plan_tells p _ is₁)) refl $ split ! $ move ! (1 ∷ []) $ split ! $ move ! (1 ∷ []) $ split ! $ move ! (1 ∷ []) $ drop ! $
+        move ! (2 ∷ []) $ lft_end ! tt $ move ! (0 ∷ 5 ∷ []) $ use2 𝓛 (later (‵ Own₁ ⊛ ‵ (flft κ₁ q₁))) (out_back R κ₁ (ν₁ ∷ []) q₁ γ₁ b₁ c₁ ys 𝓛 (named 1) (named 0) room₁) $ await ! tt $ split ! $
+        move ! (3 ∷ []) $ lft_end ! tt $ move ! (0 ∷ 5 ∷ []) $ use2 𝓛 (later (‵ Own₀ ⊛ ‵ (flft κ₀ q₀))) (out_back u8 κ₀ (ν₀ ∷ []) q₀ γ₀ b₀ c₀ bs 𝓛 (named 0) (named 1) room₀) $ await ! tt $ split ! $
         let fields = LL.owed TPlan.the_type TPlan'.the_laws p _ is₁ in
         -- `slot_put`
         assigns ! (addr ! (from ! (fld ! refl (hop ! (look_in ! 32 (sub ! 0 refl (whole !))) (stop !))))) (from ! (stop !)) (init ! 12 refl (tt, tt)) $
@@ -272,18 +272,18 @@ module _ {M : Type 1} {𝓤 : Ura M} (𝓛 : Logic 𝓤) (mem : Memory → SProp
         move ! (3 ∷ 2 ∷ []) $ use2 𝓛 (raw ((Mark 𝓛 mem run).pre to-mark)) (goes-mark fields.1.1.1.0.1) $
         calls_at ! fm (Mark 𝓛 mem run) known-mark to-mark (and_then ! (load ! (from ! (stop !)) (look ! 5 refl)) (and_then ! (load ! (from ! (fld ! {τ = ty_int w16} {d = number-lies} refl (stop !))) (look_in ! 27 {τ = ty_int w16} (sub ! {τs = parts} 3 {τ = ty_int w16} {d = number-lies} refl (whole !)))) (no_more !))) (λ w₃.
         use1 𝓛 (later (some (λ (r : Unit {0}). ((‵ (flft κ₀ q₀) ⊛ ‵ ftrue) ⊛ ‵ (unit.own_val r (w₃ ∷ []))) ⊛ raw (ensured 𝓛 mark.ended (mark.clauses 𝓛 mem run) to-mark.0.0 to-mark.0.3 tt r)))) (id⊢ 𝓤 _) $ await ! tt $ pick ! (λ r₃.
-        split ! $ move ! (1 ∷ []) $ use1 𝓛 (some (λ (zs : List ℕ × (Unit {0} × Unit {0})). ‵ (lasts mark.ended (κ₀, tt) to-mark.0.3 zs) ⊛ raw (fact 𝓤 (zs.0 ≡ markedWith bs p.number)))) (id⊢ 𝓤 _) $ pick ! (λ zs₃.
-        split ! $ move ! (1 ∷ []) $ heard ! (zs₃.0 ≡ markedWith bs p.number) (λ e₃. fsplit ! $ fsplit ! $ move ! (1 ∷ []) $ feq_l ! (λ n₃. move ! (1 ∷ []) $ drop ! $ move ! (1 ∷ []) $ split ! $ split ! $ move ! (1 ∷ []) $ drop ! $ move ! (1 ∷ []) $ feq_l ! (λ u₃.
+        split ! $ move ! (1 ∷ []) $ use1 𝓛 (some (λ (zs : List ℕ × (Unit {0} × Unit {0})). ‵ (lasts mark.ended (κ₀, tt) to-mark.0.3 zs) ⊛ raw (fact 𝓤 (zs.0 ≡ marked_with bs p.number)))) (id⊢ 𝓤 _) $ pick ! (λ zs₃.
+        split ! $ move ! (1 ∷ []) $ heard ! (zs₃.0 ≡ marked_with bs p.number) (λ e₃. fsplit ! $ fsplit ! $ move ! (1 ∷ []) $ feq_l ! (λ n₃. move ! (1 ∷ []) $ drop ! $ move ! (1 ∷ []) $ split ! $ split ! $ move ! (1 ∷ []) $ drop ! $ move ! (1 ∷ []) $ feq_l ! (λ u₃.
         land ! (from ! (stop !)) (store ! 14 refl (subst (λ (u : Val). T (has_ty ty_unit u) × WT u) (sym (ap only u₃)) (tt, tt))) $
         -- `desk_rules::served_by`
-        use0 𝓛 (raw ((ServedBy 𝓛 mem run).pre to-served-by)) (goes-served-by (subst (Is PlanR p) (plan-tells p _ is₁) is₁)) $
+        use0 𝓛 (raw ((ServedBy 𝓛 mem run).pre to-served-by)) (goes-served-by (subst (Is PlanR p) (plan_tells p _ is₁) is₁)) $
         calls_at ! fm (ServedBy 𝓛 mem run) known-served-by to-served-by (and_then ! (load ! (from ! (stop !)) (look ! 29 refl)) (no_more !)) (λ w₄.
         use1 𝓛 (later (some (λ (r : Served). (‵ ftrue ⊛ ‵ (ServedR.own_val r (w₄ ∷ []))) ⊛ raw (ensured 𝓛 served-by.ended (served-by.clauses 𝓛 mem run) to-served-by.0.0 to-served-by.0.3 tt r)))) (id⊢ 𝓤 _) $ await ! tt $ pick ! (λ r₄.
         split ! $ move ! (1 ∷ []) $ use1 𝓛 (raw (fact 𝓤 (r₄ ≡ p.served))) (served-said 𝓛 mem run p r₄) $ heard ! (r₄ ≡ p.served) (λ e₄. split ! $ drop ! $ rewrite ! 0 (λ (r : Served). ‵ (ServedR.own_val r (w₄ ∷ []))) e₄ refl $ facts ! ServedR (Is ServedR) (shows 𝓛 ServedR) p.served (w₄ ∷ []) (λ is₄.
-        land ! (from ! (stop !)) (init ! 38 refl (served-typed 𝓛 p.served _ is₄)) $ rewrite ! 38 (λ (u : Val). ‵ (fat full_share TServed'.mir l₀ 0 u)) (ap only (served-tells p.served _ is₄)) refl $
+        land ! (from ! (stop !)) (init ! 38 refl (served_typed 𝓛 p.served _ is₄)) $ rewrite ! 38 (λ (u : Val). ‵ (fat full_share TServed'.mir l₀ 0 u)) (ap only (served_tells p.served _ is₄)) refl $
         move ! (0 ∷ 2 ∷ 4 ∷ 1 ∷ 3 ∷ 5 ∷ []) $ returns ! (look ! 38 refl) $ forget ! 6 refl $ forget ! 8 refl $ forget ! 10 refl $ forget ! 12 refl $ forget ! 14 refl $ forget ! 16 refl $ forget ! 18 refl $ forget ! 20 refl $ forget ! 22 refl $ forget ! 24 refl $ forget ! 26 refl $ forget ! 28 refl $ forget ! 30 refl $ forget ! 32 refl $ forget ! 34 refl $ forget ! 36 refl $ forget ! 38 refl $
         move ! (38 ∷ 39 ∷ []) $ free1 ! $ move ! (36 ∷ 37 ∷ []) $ free1 ! $ move ! (34 ∷ 35 ∷ []) $ free1 ! $ move ! (32 ∷ 33 ∷ []) $ free1 ! $ move ! (30 ∷ 31 ∷ []) $ free1 ! $ move ! (28 ∷ 29 ∷ []) $ free1 ! $ move ! (26 ∷ 27 ∷ []) $ free1 ! $ move ! (24 ∷ 25 ∷ []) $ free1 ! $ move ! (22 ∷ 23 ∷ []) $ free1 ! $ move ! (20 ∷ 21 ∷ []) $ free1 ! $ move ! (18 ∷ 19 ∷ []) $ free1 ! $ move ! (16 ∷ 17 ∷ []) $ free1 ! $ move ! (14 ∷ 15 ∷ []) $ free1 ! $ move ! (12 ∷ 13 ∷ []) $ free1 ! $ move ! (10 ∷ 11 ∷ []) $ free1 ! $ move ! (8 ∷ 9 ∷ []) $ free1 ! $ move ! (6 ∷ 7 ∷ []) $ free1 ! $ free0 ! $
-        by ! (exits p.served zs₃.0 zs₂.0 (plan-served l bs ys s.now) (e₃ ∙ plan-map l bs ys s.now) (e₂ ∙ plan-desk l bs ys s.now) n₃ n₂ (subst (Is ServedR p.served) (served-tells p.served _ is₄) is₄))))))))))))))))))))))))))))))))))))))))))))
+        by ! (exits p.served zs₃.0 zs₂.0 (plan_served l bs ys s.now) (e₃ ∙ plan_map l bs ys s.now) (e₂ ∙ plan_desk l bs ys s.now) n₃ n₂ (subst (Is ServedR p.served) (served_tells p.served _ is₄) is₄))))))))))))))))))))))))))))))))))))))))))))
 
 module _ {M : Type 1} {𝓤 : Ura M} (𝓛 : Logic 𝓤) (mem : Memory → SProp 𝓤) (run : Routine → Fun 𝓤) where
   open 𝓛 use {H}
@@ -296,8 +296,8 @@ module _ {M : Type 1} {𝓤 : Ura M} (𝓛 : Logic 𝓤) (mem : Memory → SProp
       → Walks 𝓛 serve.ended stayed (WpFn 𝓤 H C Λ code.function) (serve.clauses 𝓛 mem run)
   serve-walks C Λ fm known-planned known-slot-put known-mark known-served-by =
       walked 𝓛 serve.ended stayed (serve.clauses 𝓛 mem run) (WpFn 𝓤 H C Λ code.function)
-      (λ κs. (ledger-vals, (shr_slice_vals, (shr_slice_vals, (shr_slice_vals, tt)))))
-      (λ κs. (ledger-tells, (mut_slice_Tells (named 0) κs.0 u8, (mut_slice_Tells (named 1) κs.1.0 R, (shr_slice_Tells (named 2) κs.1.1.0 u8, tt)))))
+      (λ κs. (ledger_vals, (shr_slice_vals, (shr_slice_vals, (shr_slice_vals, tt)))))
+      (λ κs. (ledger_tells, (mut_slice_Tells (named 0) κs.0 u8, (mut_slice_Tells (named 1) κs.1.0 R, (shr_slice_Tells (named 2) κs.1.1.0 u8, tt)))))
       (λ κs qs bounds a g are. via 𝓤 _ (fst∗ 𝓤 _ (emp 𝓤)) (walk 𝓛 mem run κs.0 κs.1.0 κs.1.1.0 qs.0 qs.1.0 qs.1.1.0 a.0 a.1.0.ref_ptr.0 a.1.0.ref_ptr.1 a.1.0.ghost_name a.1.0.now a.1.1.0.ref_ptr.0 a.1.1.0.ref_ptr.1 a.1.1.0.ghost_name a.1.1.0.now a.1.1.1.0 are.0 are.1.0.0.1 are.1.1.0.0.1 are.1.1.1.0.0.1 C Λ fm known-planned known-slot-put known-mark known-served-by))
 
 serve-meets : {M : Type 1} {𝓤 : Ura M} (𝓛 : Logic 𝓤) (mem : Memory → SProp 𝓤) (run : Routine → Fun 𝓤) (𝓣 : Tables 𝓤 𝓛.H)

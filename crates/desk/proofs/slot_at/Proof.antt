@@ -38,7 +38,7 @@ use denote.Triple.Spec.{Meets, triple_of}
 use denote.Triple.Table.{entered}
 use Rattle.slot.specs.declared.Slot.{Slot}
 use Rattle.slot.proofs.Slot.TheLaws as S'
-use Rattle.desk.proofs.SlotLaws.{R, mach, vals, tells, place-slot, offset-fits, slot-shows, slot-copy, slot-makes, slot-typed}
+use Rattle.desk.proofs.SlotLaws.{R, mach, vals, tells, place_slot, offset_fits, slot_shows, slot_copy, slot_makes, slot_typed}
 use Rattle.desk.specs.contracts.slot_at.Key.{name as #desk·slot-at}
 use Rattle.desk.specs.contracts.slot_at as slot_at
 use Rattle.desk.proofs.slot_at.Statement as stated
@@ -83,8 +83,8 @@ module _ {M : Type 1} {𝓤 : Ura M} (𝓛 : Logic 𝓤) (mem : Memory → SProp
       qed 𝓛 (‵ (flft κ q) ∷ ‵ Own ∷ []) ∵
       suffices ! _ (ends_at 𝓛 slot_at.ended stayed (slot_at.clauses 𝓛 mem run) (((κ, tt), (q, tt), tt, x, at), tt) (mach r) r (tt, (tt, (tt, tt))) (tt, (tt, (tt, tt)))) $ says ! e $
       nothing ! $ move ! (1 ∷ 0 ∷ []) $ join ! $ frame ! $
-      nothing ! $ owned ! R (Is R) (slot-makes 𝓛) other _ other-is $ fjoin ! $ owned ! usize (Is usize) (uint_Makes 𝓛 w64) i _ (refl, i-fits) $ fjoin ! $ move ! (1 ∷ 0 ∷ []) $ fjoin ! $ frame ! $
-      owned ! R (Is R) (slot-makes 𝓛) r _ g $ done !
+      nothing ! $ owned ! R (Is R) (slot_makes 𝓛) other _ other-is $ fjoin ! $ owned ! usize (Is usize) (uint_Makes 𝓛 w64) i _ (refl, i-fits) $ fjoin ! $ move ! (1 ∷ 0 ∷ []) $ fjoin ! $ frame ! $
+      owned ! R (Is R) (slot_makes 𝓛) r _ g $ done !
 
   module _ (C : Calls 𝓤 H) (Λ : Loops 𝓤 H) (l₀ l₁ l₂ l₃ l₄ l₅ l₆ l₇ l₈ l₉ : ℕ) where
     abbrev E : Env 𝓤 H
@@ -93,7 +93,7 @@ module _ {M : Type 1} {𝓤 : Ura M} (𝓛 : Logic 𝓤) (mem : Memory → SProp
     -- where the arms meet: the slot stands in `_6`
     leaves : (r : Slot) → r ≡ elem → Is R r (vals r) → Sq 𝓛 (‵ (flft κ q) ∷ ‵ Own ∷ ‵ (froom S'.mir l₉ 0) ∷ ‵ (fdies S'.mir l₉) ∷ ‵ (froom ty_ptr l₈ 0) ∷ ‵ (fdies ty_ptr l₈) ∷ ‵ (froom word l₇ 0) ∷ ‵ (fdies word l₇) ∷ ‵ (fat full_share S'.mir l₆ 0 (mach r)) ∷ ‵ (fdies S'.mir l₆) ∷ ‵ (froom ty_bool l₅ 0) ∷ ‵ (fdies ty_bool l₅) ∷ ‵ (froom word l₄ 0) ∷ ‵ (fdies word l₄) ∷ ‵ (fat full_share S'.mir l₃ 0 (mach other)) ∷ ‵ (fdies S'.mir l₃) ∷ ‵ (fat full_share word l₂ 0 (vint w64 i)) ∷ ‵ (fdies word l₂) ∷ ‵ (fat full_share slice l₁ 0 v) ∷ ‵ (fdies slice l₁) ∷ ‵ (froom S'.mir l₀ 0) ∷ ‵ (fdies S'.mir l₀) ∷ []) (runs C Λ E body.t-4 (at_ret E Post))
     leaves r e g =
-        assigns ! (of_opd ! (load ! (from ! (stop !)) (look ! 8 refl))) (from ! (stop !)) (init ! 20 refl (slot-typed 𝓛 r g)) $
+        assigns ! (of_opd ! (load ! (from ! (stop !)) (look ! 8 refl))) (from ! (stop !)) (init ! 20 refl (slot_typed 𝓛 r g)) $
         returns ! (look ! 20 refl) $ forget ! 8 refl $ forget ! 14 refl $ forget ! 16 refl $ forget ! 18 refl $ forget ! 20 refl $
         move ! (20 ∷ 21 ∷ []) $ free1 ! $ move ! (18 ∷ 19 ∷ []) $ free1 ! $ move ! (16 ∷ 17 ∷ []) $ free1 ! $ move ! (14 ∷ 15 ∷ []) $ free1 ! $ move ! (12 ∷ 13 ∷ []) $ free1 ! $ move ! (10 ∷ 11 ∷ []) $ free1 ! $ move ! (8 ∷ 9 ∷ []) $ free1 ! $ move ! (6 ∷ 7 ∷ []) $ free1 ! $ move ! (4 ∷ 5 ∷ []) $ free1 ! $ move ! (2 ∷ 3 ∷ []) $ free1 ! $ free0 ! $ by ! (exits r e g)
 
@@ -102,24 +102,24 @@ module _ {M : Type 1} {𝓤 : Ura M} (𝓛 : Logic 𝓤) (mem : Memory → SProp
     walk =
         qed 𝓛 ((‵ (flft κ q) ⊛ ‵ ftrue) ∷ ‵ (owns (ShrSlice (named 0) κ R ∷ usize ∷ R ∷ []) x at) ∷ []) ∵ enter ! C Λ code.function (v ∷ vint w64 i ∷ mach other ∷ []) _ $
         alloc1 ! (λ l₀. alloc1 ! (λ l₁. alloc1 ! (λ l₂. alloc1 ! (λ l₃. alloc1 ! (λ l₄. alloc1 ! (λ l₅. alloc1 ! (λ l₆. alloc1 ! (λ l₇. alloc1 ! (λ l₈. alloc1 ! (λ l₉. alloc0 ! $ params1 ! $
-        pass1 ! (init ! 16 refl (tt, (tt, (record { fits = room.0 }, tt)))) $ pass1 ! (init ! 14 refl (tt, record { fits = i-fits })) $ pass1 ! (init ! 12 refl (slot-typed 𝓛 other other-is)) $ pass0 ! $
+        pass1 ! (init ! 16 refl (tt, (tt, (record { fits = room.0 }, tt)))) $ pass1 ! (init ! 14 refl (tt, record { fits = i-fits })) $ pass1 ! (init ! 12 refl (slot_typed 𝓛 other other-is)) $ pass0 ! $
         move ! (21 ∷ []) $ fsplit ! $ move ! (1 ∷ []) $ drop ! $ move ! (21 ∷ []) $ split ! $ move ! (1 ∷ []) $ drop ! $
         -- [the token; what desk owns; _9; …; …; _0; …]: the local i stands at 2 + 2 · (9 − i)
         assigns ! (of_opd ! (load ! (from ! (fld ! refl (stop !))) (look_in ! 18 (sub ! 1 refl (whole !))))) (from ! (stop !)) (init ! 12 refl (tt, record { fits = room.0 })) $
         assigns ! (bin ! (load ! (from ! (stop !)) (look ! 16 refl)) (load ! (from ! (stop !)) (look ! 12 refl)) tt) (from ! (stop !)) (init ! 10 refl (tt, tt)) $
         first ! $ branches ! (load ! (from ! (stop !)) (look ! 10 refl))
         (λ less. let l = ltb→lt i (length ys) less in
-        assigns ! (bin ! (load ! (from ! (stop !)) (look ! 16 refl)) (lit ! tt) (record { fits = offset-fits (length ys) i room l })) (from ! (stop !)) (init ! 6 refl (tt, record { fits = offset-fits (length ys) i room l })) $
+        assigns ! (bin ! (load ! (from ! (stop !)) (look ! 16 refl)) (lit ! tt) (record { fits = offset_fits (length ys) i room l })) (from ! (stop !)) (init ! 6 refl (tt, record { fits = offset_fits (length ys) i room l })) $
         assigns ! (bin ! (load ! (from ! (fld ! refl (stop !))) (look_in ! 18 (sub ! 0 refl (whole !)))) (load ! (from ! (stop !)) (look ! 6 refl)) tt) (from ! (stop !)) (init ! 4 refl (tt, tt)) $
-        rewrite ! 4 (λ (p : ℕ). ‵ (fat full_share ty_ptr l₈ 0 (vptr b p))) (sym (place-slot o i)) refl $
+        rewrite ! 4 (λ (p : ℕ). ‵ (fat full_share ty_ptr l₈ 0 (vptr b p))) (sym (place_slot o i)) refl $
         move ! (1 ∷ []) $ use1 𝓛 (‵ Own ⊛ ‵ Own) ((shr_slice_copy 𝓛 (named 0) κ R).twice x.0 (v ∷ [])) $ split ! $ fsplit ! $ drop ! $ fsplit ! $ drop ! $ move ! (0 ∷ 2 ∷ []) $
-        looks_slice ! tt R (Is R) (slot-shows 𝓛) vals tells (slot-copy 𝓛) ys b o (λ q'. elem_out ! R (Is R) (slot-shows 𝓛) vals tells q' ys i other b o l (λ g.
+        looks_slice ! tt R (Is R) (slot_shows 𝓛) vals tells (slot_copy 𝓛) ys b o (λ q'. elem_out ! R (Is R) (slot_shows 𝓛) vals tells q' ys i other b o l (λ g.
         -- [desk[i]; what it owns; the others; what shuts; the fractured borrow; what desk owns; _9; …]
-        assigns ! (of_opd ! (load ! (from ! (hop ! (look ! 8 refl) (stop !))) (look_raw ! 0 refl))) (from ! (stop !)) (init ! 6 refl (slot-typed 𝓛 elem g)) $
+        assigns ! (of_opd ! (load ! (from ! (hop ! (look ! 8 refl) (stop !))) (look_raw ! 0 refl))) (from ! (stop !)) (init ! 6 refl (slot_typed 𝓛 elem g)) $
         elem_back ! R q' ys i other (vals elem) b o l $ shuts_slice ! tt R q' ys b o $ move ! (1 ∷ []) $ drop ! $
-        assigns_last ! (of_opd ! (load ! (from ! (stop !)) (look ! 2 refl))) (from ! (stop !)) (init ! 8 refl (slot-typed 𝓛 elem g)) $ exec ! C Λ (E C Λ l₀ l₁ l₂ l₃ l₄ l₅ l₆ l₇ l₈ l₉) body.t-4 (at_ret (E C Λ l₀ l₁ l₂ l₃ l₄ l₅ l₆ l₇ l₈ l₉) Post) $
+        assigns_last ! (of_opd ! (load ! (from ! (stop !)) (look ! 2 refl))) (from ! (stop !)) (init ! 8 refl (slot_typed 𝓛 elem g)) $ exec ! C Λ (E C Λ l₀ l₁ l₂ l₃ l₄ l₅ l₆ l₇ l₈ l₉) body.t-4 (at_ret (E C Λ l₀ l₁ l₂ l₃ l₄ l₅ l₆ l₇ l₈ l₉) Post) $
         forget ! 2 refl $ forget ! 4 refl $ forget ! 6 refl $ forget ! 10 refl $ forget ! 12 refl $ leaves C Λ l₀ l₁ l₂ l₃ l₄ l₅ l₆ l₇ l₈ l₉ elem refl g)))
-        (λ over. assigns_last ! (of_opd ! (load ! (from ! (stop !)) (look ! 14 refl))) (from ! (stop !)) (init ! 8 refl (slot-typed 𝓛 other other-is)) $ exec ! C Λ (E C Λ l₀ l₁ l₂ l₃ l₄ l₅ l₆ l₇ l₈ l₉) body.t-4 (at_ret (E C Λ l₀ l₁ l₂ l₃ l₄ l₅ l₆ l₇ l₈ l₉) Post) $
+        (λ over. assigns_last ! (of_opd ! (load ! (from ! (stop !)) (look ! 14 refl))) (from ! (stop !)) (init ! 8 refl (slot_typed 𝓛 other other-is)) $ exec ! C Λ (E C Λ l₀ l₁ l₂ l₃ l₄ l₅ l₆ l₇ l₈ l₉) body.t-4 (at_ret (E C Λ l₀ l₁ l₂ l₃ l₄ l₅ l₆ l₇ l₈ l₉) Post) $
         forget ! 10 refl $ forget ! 12 refl $ leaves C Λ l₀ l₁ l₂ l₃ l₄ l₅ l₆ l₇ l₈ l₉ other (sym (get_or-eq_default ys other (nltb→le i (length ys) over))) other-is)))))))))))
 
 module _ {M : Type 1} {𝓤 : Ura M} (𝓛 : Logic 𝓤) (mem : Memory → SProp 𝓤) (run : Routine → Fun 𝓤) where

@@ -38,10 +38,10 @@ use denote.Exit.{yes}
 use denote.Triple.Entry.{Vals, on_entry}
 use denote.Triple.Spec.{Meets, triple_of}
 use denote.Triple.Table.{entered}
-use Rattle.slot.specs.Slot.{freeSlot}
+use Rattle.slot.specs.Slot.{free_slot}
 use Rattle.slot.specs.declared.Slot.{Slot}
 use Rattle.slot.proofs.Slot.TheLaws as S'
-use Rattle.desk.proofs.SlotLaws.{R, mach, vals, tells, place-slot, offset-fits, slot-shows, slot-makes, slot-typed}
+use Rattle.desk.proofs.SlotLaws.{R, mach, vals, tells, place_slot, offset_fits, slot_shows, slot_makes, slot_typed}
 use Rattle.desk.specs.contracts.slot_put.Key.{name as #desk·slot-put}
 use Rattle.desk.specs.contracts.slot_put as slot-put
 use Rattle.desk.proofs.slot_put.Statement as stated
@@ -88,7 +88,7 @@ module _ {M : Type 1} {𝓤 : Ura M} (𝓛 : Logic 𝓤) (mem : Memory → SProp
       qed 𝓛 (‵ (flft κ q) ∷ ‵ (OwnAt zs) ∷ []) ∵
       suffices ! _ (ends_at 𝓛 slot-put.ended stayed (slot-put.clauses 𝓛 mem run) (((κ, tt), (q, tt), tt, a, at), tt) vunit tt (zs, (tt, (tt, tt))) (l, (tt, (tt, tt)))) $ says ! e $
       nothing ! $ move ! (1 ∷ 0 ∷ []) $ join ! $ frame ! $
-      nothing ! $ owned ! R (Is R) (slot-makes 𝓛) s _ s-is $ fjoin ! $ owned ! usize (Is usize) (uint_Makes 𝓛 w64) i _ (refl, i-fits) $ fjoin ! $ move ! (1 ∷ 0 ∷ []) $ fjoin ! $
+      nothing ! $ owned ! R (Is R) (slot_makes 𝓛) s _ s-is $ fjoin ! $ owned ! usize (Is usize) (uint_Makes 𝓛 w64) i _ (refl, i-fits) $ fjoin ! $ move ! (1 ∷ 0 ∷ []) $ fjoin ! $
       feq_i ! (List Val) (vunit ∷ []) (vunit ∷ []) refl $ move ! (1 ∷ 0 ∷ []) $ done !
 
   module _ (C : Calls 𝓤 H) (Λ : Loops 𝓤 H) (l₀ l₁ l₂ l₃ l₄ l₅ l₆ l₇ : ℕ) where
@@ -107,21 +107,21 @@ module _ {M : Type 1} {𝓤 : Ura M} (𝓛 : Logic 𝓤) (mem : Memory → SProp
     walk =
         qed 𝓛 ((‵ (flft κ q) ⊛ ‵ ftrue) ∷ ‵ (owns (MutSlice (named 0) κ R ∷ usize ∷ R ∷ []) a at) ∷ []) ∵ enter ! C Λ code.function (v ∷ vint w64 i ∷ mach s ∷ []) _ $
         alloc1 ! (λ l₀. alloc1 ! (λ l₁. alloc1 ! (λ l₂. alloc1 ! (λ l₃. alloc1 ! (λ l₄. alloc1 ! (λ l₅. alloc1 ! (λ l₆. alloc1 ! (λ l₇. alloc0 ! $ params1 ! $
-        pass1 ! (init ! 12 refl (tt, (tt, (record { fits = room.0 }, tt)))) $ pass1 ! (init ! 10 refl (tt, record { fits = i-fits })) $ pass1 ! (init ! 8 refl (slot-typed 𝓛 s s-is)) $ pass0 ! $
+        pass1 ! (init ! 12 refl (tt, (tt, (record { fits = room.0 }, tt)))) $ pass1 ! (init ! 10 refl (tt, record { fits = i-fits })) $ pass1 ! (init ! 8 refl (slot_typed 𝓛 s s-is)) $ pass0 ! $
         move ! (17 ∷ []) $ fsplit ! $ move ! (1 ∷ []) $ drop ! $ move ! (17 ∷ []) $ split ! $ move ! (1 ∷ []) $ drop ! $
         -- [the token; what desk owns; _7; …; …; _0; …]: the local i stands at 2 + 2 · (7 − i)
         assigns ! (of_opd ! (load ! (from ! (fld ! refl (stop !))) (look_in ! 14 (sub ! 1 refl (whole !))))) (from ! (stop !)) (init ! 8 refl (tt, record { fits = room.0 })) $
         assigns ! (bin ! (load ! (from ! (stop !)) (look ! 12 refl)) (load ! (from ! (stop !)) (look ! 8 refl)) tt) (from ! (stop !)) (init ! 6 refl (tt, tt)) $
         first ! $ branches ! (load ! (from ! (stop !)) (look ! 6 refl))
         (λ less.
-        assigns ! (bin ! (load ! (from ! (stop !)) (look ! 12 refl)) (lit ! tt) (record { fits = offset-fits (length ys) i room (ltb→lt i (length ys) less) })) (from ! (stop !)) (init ! 4 refl (tt, record { fits = offset-fits (length ys) i room (ltb→lt i (length ys) less) })) $
+        assigns ! (bin ! (load ! (from ! (stop !)) (look ! 12 refl)) (lit ! tt) (record { fits = offset_fits (length ys) i room (ltb→lt i (length ys) less) })) (from ! (stop !)) (init ! 4 refl (tt, record { fits = offset_fits (length ys) i room (ltb→lt i (length ys) less) })) $
         assigns ! (bin ! (load ! (from ! (fld ! refl (stop !))) (look_in ! 14 (sub ! 0 refl (whole !)))) (load ! (from ! (stop !)) (look ! 4 refl)) tt) (from ! (stop !)) (init ! 2 refl (tt, tt)) $
-        rewrite ! 2 (λ (p : ℕ). ‵ (fat full_share ty_ptr l₇ 0 (vptr b p))) (sym (place-slot o i)) refl $
-        move ! (1 ∷ []) $ fsplit ! $ drop ! $ fsplit ! $ opens_slice ! tt R ys b o $ elem_out ! R (Is R) (slot-shows 𝓛) vals tells full_share ys i freeSlot b o (ltb→lt i (length ys) less) (λ _.
+        rewrite ! 2 (λ (p : ℕ). ‵ (fat full_share ty_ptr l₇ 0 (vptr b p))) (sym (place_slot o i)) refl $
+        move ! (1 ∷ []) $ fsplit ! $ drop ! $ fsplit ! $ opens_slice ! tt R ys b o $ elem_out ! R (Is R) (slot_shows 𝓛) vals tells full_share ys i free_slot b o (ltb→lt i (length ys) less) (λ _.
         -- [desk[i]; what it owns; the others; the open borrow; obs; auth; _7; …]
-        assigns_last ! (of_opd ! (load ! (from ! (stop !)) (look ! 14 refl))) (from ! (hop ! (look ! 6 refl) (stop !))) (store_raw ! 0 refl (slot-typed 𝓛 s s-is)) $
+        assigns_last ! (of_opd ! (load ! (from ! (stop !)) (look ! 14 refl))) (from ! (hop ! (look ! 6 refl) (stop !))) (store_raw ! 0 refl (slot_typed 𝓛 s s-is)) $
         exec ! C Λ (E C Λ l₀ l₁ l₂ l₃ l₄ l₅ l₆ l₇) body.t-4 (at_ret (E C Λ l₀ l₁ l₂ l₃ l₄ l₅ l₆ l₇) Post) $
-        move ! (1 ∷ []) $ drop ! $ owned ! R (Is R) (slot-makes 𝓛) s _ s-is $ move ! (1 ∷ 0 ∷ []) $ elem_put ! R full_share ys i s (vals s) b o (ltb→lt i (length ys) less) $
+        move ! (1 ∷ []) $ drop ! $ owned ! R (Is R) (slot_makes 𝓛) s _ s-is $ move ! (1 ∷ 0 ∷ []) $ elem_put ! R full_share ys i s (vals s) b o (ltb→lt i (length ys) less) $
         closes_slice ! tt R ys (set ys i s) (length-set ys i s) b o $
         fjoin ! $ pure_i ! (mut_slice_at R (x (set ys i s)) (v ∷ [])) (tt, (tt, tt)) (ap (λ (m : ℕ). slice_val (b, o) m ∷ []) (sym (length-set ys i s)), subst (Room R) (sym (length-set ys i s)) room) $ fjoin ! $ move ! (1 ∷ 0 ∷ []) $
         forget ! 2 refl $ forget ! 4 refl $ forget ! 6 refl $ forget ! 8 refl $ leaves C Λ l₀ l₁ l₂ l₃ l₄ l₅ l₆ l₇ (set ys i s) refl (length-set ys i s)))

@@ -1,4 +1,4 @@
--- The fields are those of `refusedPlan`, with the slot that `free` gives. Assumes nothing.
+-- The fields are those of `refused_plan`, with the slot that `free` gives. Assumes nothing.
 use borrow.Author.Rules.{rules}
 use Rattle.desk_rules.proofs.refuse.Statement.{statement}
 use Rattle.desk_rules.proofs.refuse.Tie as tie

@@ -6,7 +6,7 @@ use lib.ListN.{length, get_or, drop}
 use lib.Dec.{eqb}
 use borrow.Author.Rules.{rules}
 use Rattle.desk_scan.specs.Desk.{differ}
-use Rattle.desk_scan.proofs.TableLaws.{differ-more, differ-ends}
+use Rattle.desk_scan.proofs.TableLaws.{differ_more, differ_ends}
 use Rattle.desk_scan.proofs.numbers_differ.Statement.{statement}
 use Rattle.desk_scan.proofs.numbers_differ.Tie as tie
 
@@ -22,7 +22,7 @@ loop-again c =
     let l = c.before.before.loop in (
       search rules,
       l.invariant.1 ∙
-          differ-more t l.i l.ok (search rules) ∙
+          differ_more t l.i l.ok (search rules) ∙
           (λ j. l.ok && (eqb (get_or t l.i 0) 0 || not (sym c.listed-from.ensures j)) && differ (drop (l.i + 1) t)),
       search rules,
     )
@@ -30,7 +30,7 @@ loop-again c =
 returns : tie.Need-returns invariant-loop decreases-loop
 returns c =
     let l = c.before.loop in
-    sym (l.invariant.1 ∙ differ-ends c.before.before.args.t1 l.i l.ok (search rules))
+    sym (l.invariant.1 ∙ differ_ends c.before.before.args.t1 l.i l.ok (search rules))
 
 pub numbers-differ-spec : {M : Type 1} → statement M
 numbers-differ-spec =

@@ -3,9 +3,9 @@ use mathlib.Core.Path.{◌∙◌}
 use mathlib.Core.Bool.{false}
 use mathlib.Core.List.{[]}
 use borrow.Author.Rules.{rules}
-use Rattle.element_table.specs.Table.{seenAs}
+use Rattle.element_table.specs.Table.{seen_as}
 use Rattle.element_file.specs.Yearly.{starting}
-use Rattle.element_input.proofs.WholeLaws.{unread, begun-arrived, arrived-whole}
+use Rattle.element_input.proofs.WholeLaws.{unread, begun_arrived, arrived_whole}
 use Rattle.element_input.proofs.read_file.Statement.{statement}
 use Rattle.element_input.proofs.read_file.Tie as tie
 
@@ -20,8 +20,8 @@ returns-2 c =
     let begun = c.before.before.before.before.before.before.before.begin in
     let zero = c.before.before.before.before.before.if1.false in
     let all = c.before.before.take_all in
-    let came = all.ensures (starting (seenAs false t)) (begun-arrived t begun.result begun.ensures zero c.before.before.before.before.large-buffer.result) in
-    let w = arrived-whole t begun.result begun.ensures zero all.result.flow all.new.1.1.0 came in
+    let came = all.ensures (starting (seen_as false t)) (begun_arrived t begun.result begun.ensures zero c.before.before.before.before.large-buffer.result) in
+    let w = arrived_whole t begun.result begun.ensures zero all.result.flow all.new.1.1.0 came in
     (w.0, c.finish.ensures ∙ w.1)
 
 pub read-file-spec : {M : Type 1} → statement M

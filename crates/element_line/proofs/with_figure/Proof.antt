@@ -1,5 +1,5 @@
 -- A tab, the fraction, a tab and the digits, each pushed after the one before. Assumes nothing.
-use Rattle.text.proofs.TextLaws.{pushed-all-append}
+use Rattle.text.proofs.TextLaws.{pushed_all_append}
 use borrow.Author.Rules.{rules}
 use Rattle.element_line.proofs.with_figure.Statement.{statement}
 use Rattle.element_line.proofs.with_figure.Tie as tie
@@ -8,7 +8,7 @@ use Rattle.element_line.proofs.with_figure.Reads as reads
 returns : tie.Need-returns
 returns c =
     simp (
-      pushed-all-append,
+      pushed_all_append,
       c.with-six.ensures,
       c.before.with-byte2.ensures,
       c.before.before.with-fraction.ensures,

@@ -1,5 +1,5 @@
 -- The whole part, a point and three times two digits after one another are the figure's text; a refusal is one byte. Assumes nothing.
-use Rattle.text.proofs.TextLaws.{pushed-all-append}
+use Rattle.text.proofs.TextLaws.{pushed_all_append}
 use borrow.Author.Rules.{rules}
 use Rattle.element_line.proofs.with_six.Statement.{statement}
 use Rattle.element_line.proofs.with_six.Tie as tie
@@ -9,7 +9,7 @@ returns : tie.Need-returns
 returns c =
     rw c.before.before.before.before.before.before.before.before.s.given.1
     (simp (
-      pushed-all-append,
+      pushed_all_append,
       c.with-two3.ensures,
       c.before.with-two2.ensures,
       c.before.before.before.with_two.ensures,

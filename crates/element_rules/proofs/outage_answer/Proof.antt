@@ -6,16 +6,16 @@ use lib.Dec.{ltb}
 use native.Mathlib.Omega.{arith}
 use borrow.Author.Tests.{eq-eqb, ne_eqb, le-leb, lt-leb}
 use Rattle.codes.specs.Ranges.{latest}
-use Rattle.element_codes.specs.Elements.{elementListed}
-use Rattle.element_row.specs.Row.{mostOutages}
+use Rattle.element_codes.specs.Elements.{element_listed}
+use Rattle.element_row.specs.Row.{most_outages}
 use Rattle.element_rules.specs.Fields.{code_in, start_in, end_in}
 use borrow.Author.Rules.{rules}
 use Rattle.element_rules.proofs.outage_answer.Statement.{statement}
 use Rattle.element_rules.proofs.outage_answer.Tie as tie
 
 -- the test of the code is that of the code in the bytes
-listed : (c : tie.After-is-element) → c.is-element.result ≡ elementListed (code_in c.before.before.before.before.before.args.bytes.now)
-listed c = c.is-element.ensures ∙ ap elementListed c.before.u16-at.ensures
+listed : (c : tie.After-is-element) → c.is-element.result ≡ element_listed (code_in c.before.before.before.before.before.args.bytes.now)
+listed c = c.is-element.ensures ∙ ap element_listed c.before.u16-at.ensures
 
 -- and the test of the times that of the times in the bytes
 timed :
@@ -53,8 +53,8 @@ returns-5 c =
     let known = ap not (sym (listed e.before)) ∙ e.if3.false in
     let right = sym (timed d.before) ∙ d.if4.false in
     let r = e.before.before.before.before.before.before.args.row in
-    let many : mostOutages ≤ r.outages = omega (arith, c.if5.true) in
-    sym (rw (eq-eqb _ _ e.before.before.before.before.if1.false, e.before.before.before.if2.false, known, right, le-leb mostOutages r.outages many))
+    let many : most_outages ≤ r.outages = omega (arith, c.if5.true) in
+    sym (rw (eq-eqb _ _ e.before.before.before.before.if1.false, e.before.before.before.if2.false, known, right, le-leb most_outages r.outages many))
 
 returns-6 : tie.Need-returns-6
 returns-6 c =
@@ -63,8 +63,8 @@ returns-6 c =
     let known = ap not (sym (listed e.before)) ∙ e.if3.false in
     let right = sym (timed d.before) ∙ d.if4.false in
     let r = e.before.before.before.before.before.before.args.row in
-    let few : r.outages < mostOutages = omega (arith, c.if5.false) in
-    sym (rw (eq-eqb _ _ e.before.before.before.before.if1.false, e.before.before.before.if2.false, known, right, lt-leb mostOutages r.outages few))
+    let few : r.outages < most_outages = omega (arith, c.if5.false) in
+    sym (rw (eq-eqb _ _ e.before.before.before.before.if1.false, e.before.before.before.if2.false, known, right, lt-leb most_outages r.outages few))
 
 pub outage-answer-spec : {M : Type 1} → statement M
 outage-answer-spec =

@@ -5,8 +5,8 @@ use mathlib.Core.Bool.{true, false, not, ◌||◌}
 use lib.Dec.{ltb}
 use native.Mathlib.Omega.{arith}
 use borrow.Author.Tests.{eq-eqb, ne_eqb, lt-ltb, le-ltb}
-use Rattle.element_codes.specs.Elements.{elementListed}
-use Rattle.element_rules.specs.Fields.{code_in, unitIn}
+use Rattle.element_codes.specs.Elements.{element_listed}
+use Rattle.element_rules.specs.Fields.{code_in, unit_in}
 use borrow.Author.Rules.{rules}
 use Rattle.element_rules.proofs.stock_answer.Statement.{statement}
 use Rattle.element_rules.proofs.stock_answer.Tie as tie
@@ -15,10 +15,10 @@ use Rattle.element_rules.proofs.stock_answer.Tie as tie
 tested :
     (c : tie.After-byte-at) →
     let s = c.before.before.before.before.before.before.before.before.args.bytes.now in
-    (not c.before.is-element.result || ltb 1 c.byte-at.result) ≡ (not (elementListed (code_in s)) || ltb 1 (unitIn s))
+    (not c.before.is-element.result || ltb 1 c.byte_at_lem.result) ≡ (not (element_listed (code_in s)) || ltb 1 (unit_in s))
 tested c =
-    let listed = c.before.is-element.ensures ∙ ap elementListed c.before.before.u16-at.ensures in
-    λ i. not (listed i) || ltb 1 (c.byte-at.ensures i)
+    let listed = c.before.is-element.ensures ∙ ap element_listed c.before.before.u16-at.ensures in
+    λ i. not (listed i) || ltb 1 (c.byte_at_lem.ensures i)
 
 returns : tie.Need-returns
 returns c = sym (rw (ne_eqb _ _ c.if1.true))

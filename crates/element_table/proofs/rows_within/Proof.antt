@@ -4,14 +4,14 @@ use Prim.Native.Nat.{◌+◌, ◌-◌, ◌≤◌}
 use mathlib.Core.Bool.{◌&&◌}
 use lib.ListN.{length, drop}
 use Rattle.base.specs.Lists.{every}
-use Rattle.base.proofs.ListLaws.{every_more, every-ends}
-use Rattle.element_row.specs.Row.{no_row, rowWithin}
+use Rattle.base.proofs.ListLaws.{every_more, every_ends}
+use Rattle.element_row.specs.Row.{no_row, row_within}
 use borrow.Author.Rules.{rules}
 use Rattle.element_table.proofs.rows_within.Statement.{statement}
 use Rattle.element_table.proofs.rows_within.Tie as tie
 
 abbrev invariant-loop : tie.invariant-loop
-invariant-loop rows ok₀ i₀ ok i = (i ≤ 62) × (every rowWithin rows ≡ (ok && every rowWithin (drop i rows))) × (length rows ≡ 62)
+invariant-loop rows ok₀ i₀ ok i = (i ≤ 62) × (every row_within rows ≡ (ok && every row_within (drop i rows))) × (length rows ≡ 62)
 
 abbrev decreases-loop : tie.decreases-loop
 decreases-loop rows ok₀ i₀ ok i = 62 - i
@@ -22,8 +22,8 @@ loop-again c =
     let l = c.before.before.before.loop in (
       search rules,
       l.invariant.1 ∙
-          every_more rowWithin no_row l.i l.ok a.t1 (search rules) ∙
-          (λ j. l.ok && sym c.within.ensures j && every rowWithin (drop (l.i + 1) a.t1)),
+          every_more row_within no_row l.i l.ok a.t1 (search rules) ∙
+          (λ j. l.ok && sym c.within.ensures j && every row_within (drop (l.i + 1) a.t1)),
       search rules,
     )
 
@@ -31,7 +31,7 @@ returns : tie.Need-returns invariant-loop decreases-loop
 returns c =
     let a = c.before.before.args in
     let l = c.before.loop in
-    sym (l.invariant.1 ∙ every-ends rowWithin l.i l.ok a.t1 (search rules))
+    sym (l.invariant.1 ∙ every_ends row_within l.i l.ok a.t1 (search rules))
 
 pub rows-within-spec : {M : Type 1} → statement M
 rows-within-spec =

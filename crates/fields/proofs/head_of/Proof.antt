@@ -9,7 +9,7 @@ returns c =
     λ i.
     record {
       number = c.before.before.before.before.u16-at.ensures i;
-      typ = c.before.before.before.byte-at.ensures i;
+      typ = c.before.before.before.byte_at_lem.ensures i;
       voltage = c.before.before.byte-at2.ensures i;
       cause = c.before.byte-at3.ensures i;
       t0 = c.u32-at.ensures i;

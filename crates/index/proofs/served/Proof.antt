@@ -1,4 +1,4 @@
--- Each arm is `servedOf` of its level, and three totals are at most three times the largest u32. Assumes nothing.
+-- Each arm is `served_of` of its level, and three totals are at most three times the largest u32. Assumes nothing.
 use Prim.Native.Nat.{◌+◌}
 use native.Mathlib.Omega.{arith}
 use borrow.Author.Rules.{rules}

@@ -3,8 +3,8 @@ use Prim.Native.Nat.{◌+◌}
 use mathlib.Core.Path.{◌∙◌}
 use native.Mathlib.Omega.{arith}
 use Rattle.codes.specs.Codes.{rows}
-use Rattle.index.specs.Sums.{plusCell, levelSum}
-use Rattle.index.proofs.SumLaws.{level-within, within-fit, plus-within}
+use Rattle.index.specs.Sums.{plus_cell, level_sum}
+use Rattle.index.proofs.SumLaws.{level_within_lem, within_fit, plus_within}
 use borrow.Author.Rules.{rules}
 use Rattle.index.proofs.total_of.Statement.{statement}
 use Rattle.index.proofs.total_of.Tie as tie
@@ -14,7 +14,7 @@ plus-requires c κs =
     let start = c.before.before.before.before in
     let a = start.args in
     rw (c.before.level-sum4.ensures, c.level-sum5.ensures)
-    (within-fit rows rows _ _ (level-within a.rows start.requires 0 a.set) (level-within a.rows start.requires 1 a.set) (omega arith))
+    (within_fit rows rows _ _ (level_within_lem a.rows start.requires 0 a.set) (level_within_lem a.rows start.requires 1 a.set) (omega arith))
 
 plus-requires-2 : tie.Need-plus-requires-2
 plus-requires-2 c κs =
@@ -22,9 +22,9 @@ plus-requires-2 c κs =
     let start = two.before.before.before.before in
     let a = start.args in
     rw (c.before.plus.ensures, two.before.level-sum4.ensures, two.level-sum5.ensures, c.level-sum6.ensures)
-    (within-fit (rows + rows) rows _ _
-    (plus-within rows rows (levelSum a.rows 0 a.set) (levelSum a.rows 1 a.set) (level-within a.rows start.requires 0 a.set) (level-within a.rows start.requires 1 a.set))
-    (level-within a.rows start.requires 2 a.set)
+    (within_fit (rows + rows) rows _ _
+    (plus_within rows rows (level_sum a.rows 0 a.set) (level_sum a.rows 1 a.set) (level_within_lem a.rows start.requires 0 a.set) (level_within_lem a.rows start.requires 1 a.set))
+    (level_within_lem a.rows start.requires 2 a.set)
     (omega arith))
 
 returns : tie.Need-returns
@@ -45,8 +45,8 @@ returns-4 c =
     let a = one.before.before.before.args in
     rw one.before.enum-told4.given.1
     (c.plus2.ensures ∙
-    (λ i. plusCell (sum.plus.ensures i) (three.level-sum6.ensures i)) ∙
-    (λ i. plusCell (plusCell (one.level-sum4.ensures i) (two.level-sum5.ensures i)) (levelSum a.rows 2 a.set)))
+    (λ i. plus_cell (sum.plus.ensures i) (three.level-sum6.ensures i)) ∙
+    (λ i. plus_cell (plus_cell (one.level-sum4.ensures i) (two.level-sum5.ensures i)) (level_sum a.rows 2 a.set)))
 
 pub total-of-spec : {M : Type 1} → statement M
 total-of-spec =

@@ -4,7 +4,7 @@ use mathlib.Core.List.{[], ◌∷◌}
 use lib.ListN.{length}
 use native.Mathlib.Omega.{arith}
 use Rattle.annex.specs.Figure.{Off, Halves}
-use Rattle.ledger.proofs.CellLaws.{grown-is}
+use Rattle.ledger.proofs.CellLaws.{grown_is}
 use borrow.Author.Rules.{rules}
 use Rattle.ledger.proofs.grown_levels.Statement.{statement}
 use Rattle.ledger.proofs.grown_levels.Tie as tie
@@ -33,7 +33,7 @@ returns c =
     let vn = c.before.before.before.before in
     let nn = vn.before.before.before.before in
     let start = nn.before.before.before.before.before.before in
-    (λ i. nn.grown.ensures i ∷ vn.grown2.ensures i ∷ c.grown3.ensures i ∷ []) ∙ grown-is start.args.figures start.args.t1 (three-there start)
+    (λ i. nn.grown.ensures i ∷ vn.grown2.ensures i ∷ c.grown3.ensures i ∷ []) ∙ grown_is start.args.figures start.args.t1 (three-there start)
 
 pub grown-levels-spec : {M : Type 1} → statement M
 grown-levels-spec =

@@ -4,8 +4,8 @@ use mathlib.Core.Bool.{◌&&◌, and-true, and_assoc}
 use lib.ListN.{length, get_or}
 use Rattle.base.specs.Lists.{every}
 use Rattle.base.proofs.ListLaws.{three}
-use Rattle.ledger.specs.Ledger.{noCell}
-use Rattle.ledger.specs.Sound.{cellWithin}
+use Rattle.ledger.specs.Ledger.{no_cell}
+use Rattle.ledger.specs.Sound.{cell_within}
 use borrow.Author.Rules.{rules}
 use Rattle.ledger.proofs.levels_within.Statement.{statement}
 use Rattle.ledger.proofs.levels_within.Tie as tie
@@ -16,13 +16,13 @@ returns c =
     let nn = vn.before.before in
     let a = nn.before.before.args in
     let n : length a.t1 ≡ 3 = search rules in
-    let one = cellWithin a.events (get_or a.t1 0 noCell) in
-    let two = cellWithin a.events (get_or a.t1 1 noCell) in
-    let last = cellWithin a.events (get_or a.t1 2 noCell) in
+    let one = cell_within a.events (get_or a.t1 0 no_cell) in
+    let two = cell_within a.events (get_or a.t1 1 no_cell) in
+    let last = cell_within a.events (get_or a.t1 2 no_cell) in
     (λ i. nn.within.ensures i && vn.within2.ensures i && c.within3.ensures i) ∙
     and_assoc one two last ∙
     (λ i. one && (two && sym (and-true last) i)) ∙
-    ap (every (cellWithin a.events)) (three noCell a.t1 n)
+    ap (every (cell_within a.events)) (three no_cell a.t1 n)
 
 pub levels-within-spec : {M : Type 1} → statement M
 levels-within-spec =

@@ -4,16 +4,16 @@ use Prim.Native.Nat.{◌+◌, ◌-◌, ◌≤◌}
 use mathlib.Core.Bool.{◌&&◌}
 use lib.ListN.{length, drop}
 use Rattle.base.specs.Lists.{every}
-use Rattle.base.proofs.ListLaws.{every_more, every-ends}
+use Rattle.base.proofs.ListLaws.{every_more, every_ends}
 use Rattle.codes.specs.Codes as codes
 use Rattle.ledger.specs.Ledger.{no_row}
-use Rattle.ledger.specs.Sound.{rowWithin}
+use Rattle.ledger.specs.Sound.{row_within}
 use borrow.Author.Rules.{rules}
 use Rattle.ledger.proofs.rows_within.Statement.{statement}
 use Rattle.ledger.proofs.rows_within.Tie as tie
 
 abbrev invariant-loop : tie.invariant-loop
-invariant-loop events rows ok₀ i₀ ok i = (i ≤ codes.rows) × (every (rowWithin events) rows ≡ (ok && every (rowWithin events) (drop i rows))) × (length rows ≡ codes.rows)
+invariant-loop events rows ok₀ i₀ ok i = (i ≤ codes.rows) × (every (row_within events) rows ≡ (ok && every (row_within events) (drop i rows))) × (length rows ≡ codes.rows)
 
 abbrev decreases-loop : tie.decreases-loop
 decreases-loop events rows ok₀ i₀ ok i = codes.rows - i
@@ -24,8 +24,8 @@ loop-again c =
     let l = c.before.before.before.loop in (
       search rules,
       l.invariant.1 ∙
-          every_more (rowWithin a.events) no_row l.i l.ok a.t1 (search rules) ∙
-          (λ j. l.ok && sym c.within.ensures j && every (rowWithin a.events) (drop (l.i + 1) a.t1)),
+          every_more (row_within a.events) no_row l.i l.ok a.t1 (search rules) ∙
+          (λ j. l.ok && sym c.within.ensures j && every (row_within a.events) (drop (l.i + 1) a.t1)),
       search rules,
     )
 
@@ -33,7 +33,7 @@ returns : tie.Need-returns invariant-loop decreases-loop
 returns c =
     let a = c.before.before.args in
     let l = c.before.loop in
-    sym (l.invariant.1 ∙ every-ends (rowWithin a.events) l.i l.ok a.t1 (search rules))
+    sym (l.invariant.1 ∙ every_ends (row_within a.events) l.i l.ok a.t1 (search rules))
 
 pub rows-within-spec : {M : Type 1} → statement M
 rows-within-spec =

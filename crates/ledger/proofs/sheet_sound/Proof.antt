@@ -4,7 +4,7 @@ use Rattle.ledger.proofs.sheet_sound.Statement.{statement}
 use Rattle.ledger.proofs.sheet_sound.Tie as tie
 
 returns : tie.Need-returns
-returns c = rw c.before.before.in-range.ensures
+returns c = rw c.before.before.in_range_lem.ensures
 
 pub sheet-sound-spec : {M : Type 1} → statement M
 sheet-sound-spec =

@@ -4,25 +4,25 @@ use Prim.Native.Nat.{◌-◌, ◌≤◌}
 use mathlib.Core.Path.{◌≡◌, sym, ◌∙◌}
 use lib.ListN.{length, drop}
 use borrow.Author.Rules.{rules}
-use Rattle.likeness.specs.Likeness.{beginsAlike}
-use Rattle.likeness.proofs.LikenessLaws.{alike-short, alike-parts, alike_next, alike-whole}
+use Rattle.likeness.specs.Likeness.{begins_alike}
+use Rattle.likeness.proofs.LikenessLaws.{alike_short, alike_parts, alike_next, alike_whole}
 use Rattle.likeness.proofs.begins_alike.Statement.{statement}
 use Rattle.likeness.proofs.begins_alike.Tie as tie
 
 abbrev invariant-loop : tie.invariant-loop
-invariant-loop s word i₀ i = (i ≤ length word) × (beginsAlike s word ≡ beginsAlike (drop i s) (drop i word))
+invariant-loop s word i₀ i = (i ≤ length word) × (begins_alike s word ≡ begins_alike (drop i s) (drop i word))
 
 abbrev decreases-loop : tie.decreases-loop
 decreases-loop s word i₀ i = length word - i
 
 returns : tie.Need-returns invariant-loop decreases-loop
-returns c = sym (alike-short c.before.before.before.args.s.now c.before.before.before.args.word.now c.if1.true)
+returns c = sym (alike_short c.before.before.before.args.s.now c.before.before.before.args.word.now c.if1.true)
 
 returns-2 : tie.Need-returns-2 invariant-loop decreases-loop
 returns-2 c =
     let a = c.before.before.before.before.before.before.before.before.before.args in
     let l = c.before.before.before.before.before.loop in
-    sym (l.invariant.1 ∙ alike-parts a.s.now a.word.now l.i (search rules) (search rules) (λ e. c.if2.true (c.before.before.lowered.ensures ∙ e)))
+    sym (l.invariant.1 ∙ alike_parts a.s.now a.word.now l.i (search rules) (search rules) (λ e. c.if2.true (c.before.before.lowered.ensures ∙ e)))
 
 loop-again : tie.Need-loop-preserved invariant-loop decreases-loop
 loop-again c =
@@ -35,7 +35,7 @@ returns-3 : tie.Need-returns-3 invariant-loop decreases-loop
 returns-3 c =
     let a = c.before.before.before.before.before.args in
     let l = c.before.loop in
-    sym (l.invariant.1 ∙ alike-whole a.s.now a.word.now l.i (search rules))
+    sym (l.invariant.1 ∙ alike_whole a.s.now a.word.now l.i (search rules))
 
 pub begins-alike-spec : {M : Type 1} → statement M
 begins-alike-spec =

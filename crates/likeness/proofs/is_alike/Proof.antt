@@ -3,9 +3,9 @@ use mathlib.Core.Path.{sym, ap, ◌∙◌}
 use lib.ListN.{length}
 use borrow.Author.Rules.{rules}
 use borrow.Author.Tests.{not-true, not-false}
-use Rattle.text_scan.specs.Scan.{partedHere}
-use Rattle.text_scan.proofs.ScanLaws.{part-is-rest}
-use Rattle.likeness.proofs.LikenessLaws.{not_alike, alike-parted}
+use Rattle.text_scan.specs.Scan.{parted_here}
+use Rattle.text_scan.proofs.ScanLaws.{part_is_rest}
+use Rattle.likeness.proofs.LikenessLaws.{not_alike, alike_parted}
 use Rattle.likeness.proofs.is_alike.Statement.{statement}
 use Rattle.likeness.proofs.is_alike.Tie as tie
 
@@ -18,8 +18,8 @@ returns-2 : tie.Need-returns-2
 returns-2 c =
     let a = c.before.before.before.before.before.before.args in
     let begins = c.before.before.before.begins-alike in
-    c.parted-here.ensures ∙ ap partedHere (c.before.part.ensures ∙ part-is-rest a.s.now (length a.word.now)) ∙
-    alike-parted a.s.now a.word.now (sym begins.ensures ∙ not-false begins.result c.before.before.if1.false)
+    c.parted-here.ensures ∙ ap parted_here (c.before.part.ensures ∙ part_is_rest a.s.now (length a.word.now)) ∙
+    alike_parted a.s.now a.word.now (sym begins.ensures ∙ not-false begins.result c.before.before.if1.false)
 
 pub is-alike-spec : {M : Type 1} → statement M
 is-alike-spec = tie.close

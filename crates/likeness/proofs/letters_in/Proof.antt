@@ -5,13 +5,13 @@ use mathlib.Core.Bool.{Bool, false}
 use lib.ListN.{length, drop, get_or}
 use borrow.Author.Rules.{rules}
 use borrow.Author.Tests.{ne_eqb}
-use Rattle.likeness.specs.Likeness.{lettersIn}
-use Rattle.likeness.proofs.LikenessLaws.{letters-comment, letters-here, letters-later, letters-none}
+use Rattle.likeness.specs.Likeness.{letters_in}
+use Rattle.likeness.proofs.LikenessLaws.{letters_comment, letters_here, letters_later, letters_none}
 use Rattle.likeness.proofs.letters_in.Statement.{statement}
 use Rattle.likeness.proofs.letters_in.Tie as tie
 
 abbrev invariant-loop : tie.invariant-loop
-invariant-loop s behind₀ i₀ behind i = (i ≤ length s) × (lettersIn false s ≡ lettersIn behind (drop i s))
+invariant-loop s behind₀ i₀ behind i = (i ≤ length s) × (letters_in false s ≡ letters_in behind (drop i s))
 
 abbrev decreases-loop : tie.decreases-loop
 decreases-loop s behind₀ i₀ behind i = length s - i
@@ -23,7 +23,7 @@ returns : tie.Need-returns invariant-loop decreases-loop
 returns c =
     let s = c.before.before.before.before.before.args.s.now in
     let l = c.before.before.before.loop in
-    sym (l.invariant.1 ∙ letters-comment s l.i l.behind c.before.before.loop-test.true c.if1.true)
+    sym (l.invariant.1 ∙ letters_comment s l.i l.behind c.before.before.loop-test.true c.if1.true)
 
 returns-2 : tie.Need-returns-2 invariant-loop decreases-loop
 returns-2 c =
@@ -31,7 +31,7 @@ returns-2 c =
     let l = c.before.before.before.before.before.loop in
     let no = ne_eqb (get_or s l.i 0) 35 c.before.before.if1.false in
     let is = sym c.before.letter-behind.ensures ∙ c.if2.true in
-    sym (l.invariant.1 ∙ letters-here s l.i l.behind c.before.before.before.before.loop-test.true no is)
+    sym (l.invariant.1 ∙ letters_here s l.i l.behind c.before.before.before.before.loop-test.true no is)
 
 loop-again : tie.Need-loop-preserved invariant-loop decreases-loop
 loop-again c =
@@ -40,13 +40,13 @@ loop-again c =
     let no = ne_eqb (get_or s l.i 0) 35 c.before.before.before.if1.false in
     let none = sym c.before.before.letter-behind.ensures ∙ c.before.if2.false in (
       search rules,
-      l.invariant.1 ∙ letters-later s l.i l.behind c.before.before.before.before.before.loop-test.true no none ∙ ap (λ (t : Bool). lettersIn t (drop (l.i + 1) s)) (sym c.is-gap.ensures),
+      l.invariant.1 ∙ letters_later s l.i l.behind c.before.before.before.before.before.loop-test.true no none ∙ ap (λ (t : Bool). letters_in t (drop (l.i + 1) s)) (sym c.is-gap.ensures),
     )
 
 returns-3 : tie.Need-returns-3 invariant-loop decreases-loop
 returns-3 c =
     let l = c.before.loop in
-    sym (l.invariant.1 ∙ letters-none c.before.before.before.args.s.now l.i l.behind c.loop-test.false)
+    sym (l.invariant.1 ∙ letters_none c.before.before.before.args.s.now l.i l.behind c.loop-test.false)
 
 pub letters-in-spec : {M : Type 1} → statement M
 letters-in-spec =

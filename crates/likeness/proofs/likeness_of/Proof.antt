@@ -5,42 +5,42 @@ use mathlib.Core.List.{List}
 use lib.ListN.{drop}
 use borrow.Author.Rules.{rules}
 use borrow.Author.Tests.{eq-eqb, ne_eqb}
-use Rattle.text_scan.proofs.ScanLaws.{part-is-rest}
-use Rattle.likeness.specs.Likeness.{wordLike, itemLike, gapLike, likenessOf}
+use Rattle.text_scan.proofs.ScanLaws.{part_is_rest}
+use Rattle.likeness.specs.Likeness.{word_like, item_like, gap_like, likeness_of}
 use Rattle.likeness.proofs.likeness_of.Statement.{statement}
 use Rattle.likeness.proofs.likeness_of.Tie as tie
 
 rest : (c : tie.After-part) → c.part.result.now ≡ drop c.before.before.args.at c.before.before.args.line.now
-rest c = c.part.ensures ∙ part-is-rest c.before.before.args.line.now c.before.before.args.at
+rest c = c.part.ensures ∙ part_is_rest c.before.before.args.line.now c.before.before.args.at
 
 returns : tie.Need-returns
-unfolding likenessOf
+unfolding likeness_of
 returns c =
     let a = c.before.before.before.before.args in
-    rw (likenessOf, eq-eqb a.answer 1 c.before.if1.true) (c.word-like.ensures ∙ ap wordLike (rest c.before.before))
+    rw (likeness_of, eq-eqb a.answer 1 c.before.if1.true) (c.word-like.ensures ∙ ap word_like (rest c.before.before))
 
 returns-2 : tie.Need-returns-2
-unfolding likenessOf
+unfolding likeness_of
 returns-2 c =
     let a = c.before.before.before.before.before.before.args in
     let r = rest c.before.before.before.before in
-    rw (likenessOf, ne_eqb a.answer 1 c.before.before.before.if1.false, eq-eqb a.answer 10 c.before.before.if2.true)
-    (c.gap-like.ensures ∙ (λ i. gapLike (r i) (c.before.Item-refused.ensures i)))
+    rw (likeness_of, ne_eqb a.answer 1 c.before.before.before.if1.false, eq-eqb a.answer 10 c.before.before.if2.true)
+    (c.gap-like.ensures ∙ (λ i. gap_like (r i) (c.before.Item-refused.ensures i)))
 
 returns-3 : tie.Need-returns-3
-unfolding likenessOf
+unfolding likeness_of
 returns-3 c =
     let a = c.before.before.before.before.before.before.before.args in
     let is = sym c.before.before.asks-item.ensures ∙ c.before.if3.true in
-    rw (likenessOf, ne_eqb a.answer 1 c.before.before.before.before.if1.false, ne_eqb a.answer 10 c.before.before.before.if2.false, is)
-    (c.item-like.ensures ∙ ap (λ (s : List ℕ). itemLike s a.answer) (rest c.before.before.before.before.before))
+    rw (likeness_of, ne_eqb a.answer 1 c.before.before.before.before.if1.false, ne_eqb a.answer 10 c.before.before.before.if2.false, is)
+    (c.item-like.ensures ∙ ap (λ (s : List ℕ). item_like s a.answer) (rest c.before.before.before.before.before))
 
 returns-4 : tie.Need-returns-4
-unfolding likenessOf
+unfolding likeness_of
 returns-4 c =
     let a = c.before.before.before.before.before.before.args in
     let none = sym c.before.asks-item.ensures ∙ c.if3.false in
-    rw (likenessOf, ne_eqb a.answer 1 c.before.before.before.if1.false, ne_eqb a.answer 10 c.before.before.if2.false, none)
+    rw (likeness_of, ne_eqb a.answer 1 c.before.before.before.if1.false, ne_eqb a.answer 10 c.before.before.if2.false, none)
 
 pub likeness-of-spec : {M : Type 1} → statement M
 likeness-of-spec =

@@ -3,15 +3,15 @@ use Prim.Native.Nat.{◌+◌, ◌-◌}
 use mathlib.Core.Path.{◌≡◌, ap, sym, ◌∙◌}
 use lib.ListN.{length, take, drop}
 use borrow.Author.Rules.{rules}
-use Rattle.pen.specs.Pen.{Spot, spot, pushedAll}
-use Rattle.pack.specs.Pack.{oneEach}
-use Rattle.pack.proofs.PackLaws.{bytes_next, bytes-none}
+use Rattle.pen.specs.Pen.{Spot, spot, pushed_all}
+use Rattle.pack.specs.Pack.{one_each}
+use Rattle.pack.proofs.PackLaws.{bytes_next, bytes_none}
 use Rattle.pack.proofs.put_bytes.Statement.{statement}
 use Rattle.pack.proofs.put_bytes.Tie as tie
 
 abbrev invariant-loop : tie.invariant-loop
 invariant-loop out₀ at count values to₀ k₀ out to k =
-    (pushedAll (spot out₀ at) (oneEach (take count values)) ≡ pushedAll (spot out to) (oneEach (drop k (take count values)))) × (length values ≡ 261) × (length out ≡ length out₀)
+    (pushed_all (spot out₀ at) (one_each (take count values)) ≡ pushed_all (spot out to) (one_each (drop k (take count values)))) × (length values ≡ 261) × (length out ≡ length out₀)
 
 abbrev decreases-loop : tie.decreases-loop
 decreases-loop out₀ at count values to₀ k₀ out to k = 261 - k
@@ -23,13 +23,13 @@ returns : tie.Need-returns invariant-loop decreases-loop
 returns c =
     let a = c.before.before.before.before.args in
     let l = c.before.before.loop in
-    sym (l.invariant.0 ∙ bytes-none (spot l.out l.to) l.k a.count a.t3 (search rules))
+    sym (l.invariant.0 ∙ bytes_none (spot l.out l.to) l.k a.count a.t3 (search rules))
 
 loop-again : tie.Need-loop-preserved invariant-loop decreases-loop
 loop-again c =
     let a = c.before.before.before.before.before.before.before.before.args in
     let l = c.before.before.before.before.before.before.loop in (
-      l.invariant.0 ∙ bytes_next (spot l.out l.to) l.k a.count a.t3 (search rules) (search rules) ∙ ap (λ (s : Spot). pushedAll s (oneEach (drop (l.k + 1) (take a.count a.t3)))) (sym c.before.before.put.ensures),
+      l.invariant.0 ∙ bytes_next (spot l.out l.to) l.k a.count a.t3 (search rules) (search rules) ∙ ap (λ (s : Spot). pushed_all s (one_each (drop (l.k + 1) (take a.count a.t3)))) (sym c.before.before.put.ensures),
       l.invariant.1,
       search rules,
     )
@@ -41,7 +41,7 @@ returns-2 : tie.Need-returns-2 invariant-loop decreases-loop
 returns-2 c =
     let a = c.before.before.before.args in
     let l = c.before.loop in
-    sym (l.invariant.0 ∙ bytes-none (spot l.out l.to) l.k a.count a.t3 (search rules))
+    sym (l.invariant.0 ∙ bytes_none (spot l.out l.to) l.k a.count a.t3 (search rules))
 
 pub put-bytes-spec : {M : Type 1} → statement M
 put-bytes-spec =

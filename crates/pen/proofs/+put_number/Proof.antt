@@ -2,10 +2,10 @@
 use mathlib.Core.Path.{◌≡◌, ap, ◌∙◌, sym}
 use mathlib.Core.List.{List, [], ◌∷◌}
 use native.Mathlib.Omega.{arith}
-use Rattle.text.specs.Text.{numberText}
-use Rattle.text.proofs.TextLaws.{number-ends, number-unrolls}
-use Rattle.pen.specs.Pen.{Spot, spot, pushedAll}
-use Rattle.pen.proofs.PenLaws.{pushed-all-append}
+use Rattle.text.specs.Text.{number_text}
+use Rattle.text.proofs.TextLaws.{number_ends, number_unrolls}
+use Rattle.pen.specs.Pen.{Spot, spot, pushed_all}
+use Rattle.pen.proofs.PenLaws.{pushed_all_append}
 use borrow.Author.Rules.{rules}
 use Prim.Native.Nat.{ℕ, ◌+◌, ◌/◌, ◌%◌, ◌<◌}
 use borrow.Fn.Kinds.{In}
@@ -68,7 +68,7 @@ put-number-returns : (t : ℕ) → put-number-lts.Need-returns (
 ) (put-number-at t) put-number.Post
 put-number-returns t c =
     let a = c.before.before.before.before.before.before.args in
-    c.before.before.put.ensures ∙ ap (pushedAll (spot a.out.now a.at)) (sym (number-ends a.n c.before.before.before.before.if1.true))
+    c.before.before.put.ensures ∙ ap (pushed_all (spot a.out.now a.at)) (sym (number_ends a.n c.before.before.before.before.if1.true))
 
 put-number-put-number-requires : (t : ℕ) → put-number-lts.Need-put-number-requires (
   put_reads.Asked,
@@ -121,9 +121,9 @@ put-number-returns-2 t c =
     let s = spot a.out.now a.at in
     let last : List ℕ = (48 + a.n % 10) ∷ [] in
     c.before.before.put2.ensures ∙
-    ap (λ (s : Spot). pushedAll s last) c.before.before.before.before.before.before.put-number.ensures ∙
-    sym (pushed-all-append s (numberText (a.n / 10)) last) ∙
-    ap (pushedAll s) (sym (number-unrolls a.n c.before.before.before.before.before.before.before.before.if1.false (search rules)))
+    ap (λ (s : Spot). pushed_all s last) c.before.before.before.before.before.before.put-number.ensures ∙
+    sym (pushed_all_append s (number_text (a.n / 10)) last) ∙
+    ap (pushed_all s) (sym (number_unrolls a.n c.before.before.before.before.before.before.before.before.if1.false (search rules)))
 
 pub +put-number-spec : {M : Type 1} → statement M
 +put-number-spec = close μ-put-number λ t. put-number-lts.spec (

@@ -9,14 +9,14 @@ use native.Mathlib.Omega.{arith}
 use borrow.Author.Tests.{eqb-true, eqb-false, not-false}
 use Rattle.base.specs.First.{first}
 use Rattle.base.proofs.TestLaws.{or_right}
-use Rattle.fields.specs.Fields.{headIn, stepsFrom, stepsIn}
+use Rattle.fields.specs.Fields.{head_in, steps_from, steps_in}
 use Rattle.walk.specs.declared.Walk.{Walk}
-use Rattle.walk.specs.Walk.{setOut, walked}
-use Rattle.walk.proofs.WalkLaws.{walked-last, walked-figures}
-use Rattle.verdict.specs.Verdict.{refusedWith, eventVerdict}
-use Rattle.record.specs.Rules.{lengthWrong}
-use Rattle.record.specs.Inside.{steppedTests, answerAt}
-use Rattle.record.proofs.JudgeLaws.{refused-by, at-refused, at-accepted, stepped-answer, stepped-timely}
+use Rattle.walk.specs.Walk.{set_out, walked}
+use Rattle.walk.proofs.WalkLaws.{walked_last, walked_figures}
+use Rattle.verdict.specs.Verdict.{refused_with, event_verdict}
+use Rattle.record.specs.Rules.{length_wrong}
+use Rattle.record.specs.Inside.{stepped_tests, answer_at}
+use Rattle.record.proofs.JudgeLaws.{refused_by, at_refused, at_accepted, stepped_answer, stepped_timely}
 use borrow.Author.Rules.{rules}
 use Rattle.record.proofs.judge_stepped.Statement.{statement}
 use Rattle.record.proofs.judge_stepped.Tie as tie
@@ -25,37 +25,37 @@ use Rattle.record.proofs.judge_stepped.Tie as tie
 length-is :
     (c : tie.After-byte-at) →
     let s = c.before.before.before.args.bytes.now in
-    let n = c.byte-at.result in
-    (ltb (length s) 14 || eqb n 0 || ltb 64 n || not (eqb (length s) (14 + 16 * n))) ≡ lengthWrong 3 s
+    let n = c.byte_at_lem.result in
+    (ltb (length s) 14 || eqb n 0 || ltb 64 n || not (eqb (length s) (14 + 16 * n))) ≡ length_wrong 3 s
 length-is c =
     let s = c.before.before.before.args.bytes.now in
-    λ i. ltb (length s) 14 || eqb (c.byte-at.ensures i) 0 || ltb 64 (c.byte-at.ensures i) || not (eqb (length s) (14 + 16 * c.byte-at.ensures i))
+    λ i. ltb (length s) 14 || eqb (c.byte_at_lem.ensures i) 0 || ltb 64 (c.byte_at_lem.ensures i) || not (eqb (length s) (14 + 16 * c.byte_at_lem.ensures i))
 
 -- the walk is over the record's own steps, from its own T0
-walk_is : (c : tie.After-walk-of) → let s = c.before.before.before.before.before.before.args.bytes.now in c.walk_of.result ≡ walked (setOut (headIn s).t0) (stepsIn s)
+walk_is : (c : tie.After-walk-of) → let s = c.before.before.before.before.before.before.args.bytes.now in c.walk_of.result ≡ walked (set_out (head_in s).t0) (steps_in s)
 walk_is c =
     let s = c.before.before.before.before.before.before.args.bytes.now in
-    c.walk_of.ensures ∙ (λ i. walked (setOut (c.before.head_of.ensures i).t0) (stepsFrom s (c.before.before.before.byte-at.ensures i) 14))
+    c.walk_of.ensures ∙ (λ i. walked (set_out (c.before.head_of.ensures i).t0) (steps_from s (c.before.before.before.byte_at_lem.ensures i) 14))
 
 -- what is answered is what the rules answer
-answer-is : (c : tie.After-stepped-answer) → let a = c.before.before.before.before.before.before.before.args in c.stepped-answer.result ≡ answerAt 3 a.bytes.now a.sheet a.map.now a.events
-answer-is c =
+answer_is : (c : tie.After-stepped-answer) → let a = c.before.before.before.before.before.before.before.args in c.stepped_answer.result ≡ answer_at 3 a.bytes.now a.sheet a.map.now a.events
+answer_is c =
     let walk = c.before in
     let a = walk.before.before.before.before.before.before.args in
-    c.stepped-answer.ensures ∙
-    (λ i. first (steppedTests (walk.before.head_of.ensures i) (walk_is walk i) a.sheet a.map.now a.events)) ∙
-    sym (stepped-answer a.bytes.now a.sheet a.map.now a.events (sym (length-is walk.before.before.before) ∙ walk.before.before.if1.false))
+    c.stepped_answer.ensures ∙
+    (λ i. first (stepped_tests (walk.before.head_of.ensures i) (walk_is walk i) a.sheet a.map.now a.events)) ∙
+    sym (stepped_answer a.bytes.now a.sheet a.map.now a.events (sym (length-is walk.before.before.before) ∙ walk.before.before.if1.false))
 
 returns : tie.Need-returns
 returns c =
     let a = c.before.before.before.before.before.args in
     c.refuse.ensures ∙
-    sym (refused-by 3 a.bytes.now a.sheet a.map.now a.events 4 (refl, sym (length-is c.before.before) ∙ c.before.if1.true) (eqb-false 4 0 refl))
+    sym (refused_by 3 a.bytes.now a.sheet a.map.now a.events 4 (refl, sym (length-is c.before.before) ∙ c.before.if1.true) (eqb-false 4 0 refl))
 
 walk_of-requires : tie.Need-walk_of-requires
 walk_of-requires c κs =
     let s = c.before.before.before.before.before.args.bytes.now in
-    let n = c.before.before.byte-at.result in
+    let n = c.before.before.byte_at_lem.result in
     let size : length s ≡ 14 + 16 * n = eqb-true _ _ (not-false _ (or_right (ltb (length s) 14 || eqb n 0 || ltb 64 n) _ c.before.if1.false)) in
     omega arith
 
@@ -63,10 +63,10 @@ returns-2 : tie.Need-returns-2
 returns-2 c =
     let answer = c.before.before in
     let a = answer.before.before.before.before.before.before.before.args in
-    let e = answer-is answer in
+    let e = answer_is answer in
     c.refuse2.ensures ∙
-    ap (refusedWith a.sheet) e ∙
-    sym (at-refused 3 a.bytes.now a.sheet a.map.now a.events _ refl (λ z. c.before.if2.true (e ∙ z)))
+    ap (refused_with a.sheet) e ∙
+    sym (at_refused 3 a.bytes.now a.sheet a.map.now a.events _ refl (λ z. c.before.if2.true (e ∙ z)))
 
 returns-3 : tie.Need-returns-3
 returns-3 c =
@@ -74,14 +74,14 @@ returns-3 c =
     let walk = answer.before in
     let a = walk.before.before.before.before.before.before.args in
     let s = a.bytes.now in
-    let t0 = (headIn s).t0 in
-    let z = sym (answer-is answer) ∙ c.before.before.if2.false in
-    let timely = stepped-timely s a.sheet a.map.now a.events z in
-    let last = ap (λ (w : Walk). w.course.last) (walk_is walk) ∙ walked-last t0 (stepsIn s) timely in
-    let figures = ap (λ (w : Walk). w.course.figures) (walk_is walk) ∙ walked-figures t0 (stepsIn s) timely in
+    let t0 = (head_in s).t0 in
+    let z = sym (answer_is answer) ∙ c.before.before.if2.false in
+    let timely = stepped_timely s a.sheet a.map.now a.events z in
+    let last = ap (λ (w : Walk). w.course.last) (walk_is walk) ∙ walked_last t0 (steps_in s) timely in
+    let figures = ap (λ (w : Walk). w.course.figures) (walk_is walk) ∙ walked_figures t0 (steps_in s) timely in
     c.accept.ensures ∙
-    (λ i. eventVerdict a.sheet (walk.before.head_of.ensures i) (last i) (figures i)) ∙
-    sym (at-accepted 3 s a.sheet a.map.now a.events z)
+    (λ i. event_verdict a.sheet (walk.before.head_of.ensures i) (last i) (figures i)) ∙
+    sym (at_accepted 3 s a.sheet a.map.now a.events z)
 
 pub judge-stepped-spec : {M : Type 1} → statement M
 judge-stepped-spec =

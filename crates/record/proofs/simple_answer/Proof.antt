@@ -7,9 +7,9 @@ use lib.Dec.{leb}
 use lib.ListN.{drop}
 use borrow.Author.Tests.{le-leb, lt-leb}
 use Rattle.base.specs.First.{first}
-use Rattle.codes.specs.Ranges.{mostEvents}
-use Rattle.limits.specs.Limits.{aboveLevel}
-use Rattle.record.specs.Inside.{simpleTests}
+use Rattle.codes.specs.Ranges.{most_events}
+use Rattle.limits.specs.Limits.{above_level}
+use Rattle.record.specs.Inside.{simple_tests}
 use Rattle.record.proofs.JudgeLaws.{met, passed}
 use borrow.Author.Rules.{rules}
 use Rattle.record.proofs.simple_answer.Statement.{statement}
@@ -19,7 +19,7 @@ use Rattle.record.proofs.simple_answer.Tie as tie
 abbrev rest-5 : tie.After-struct-known → ℕ → ℕ
 rest-5 c k =
     let a = c.before.before.before.before.before.before.args in
-    first (drop k (simpleTests a.head a.e a.sheet a.map.now a.events))
+    first (drop k (simple_tests a.head a.e a.sheet a.map.now a.events))
 
 abbrev rest-7 : tie.After-listed → ℕ → ℕ
 rest-7 c = rest-5 c.before.before
@@ -60,8 +60,8 @@ at-12 : (c : tie.After-is-above2) → cond (c.before.is-above.result || c.is-abo
 at-12 c =
     let e = c.before.before.before.before.before.before.before.before.before.before.before.before.before.before.before.before.before.before.args.e in
     let level = c.before.before.before.before.before.before.before.before.before.before.before.before.before.before.before.level-of.ensures in
-    let a = c.before.is-above.ensures ∙ ap (λ n. aboveLevel n e.n1) level in
-    let b = c.is-above2.ensures ∙ ap (λ n. aboveLevel n e.n2) level in
+    let a = c.before.is-above.ensures ∙ ap (λ n. above_level n e.n1) level in
+    let b = c.is-above2.ensures ∙ ap (λ n. above_level n e.n2) level in
     (λ i. cond (a i || b i) 12 (rest-12 c 5)) ∙ passed 11 _ (at-11 c.before.before.before) c.before.before.if4.false
 
 at-13 : (c : tie.After-is-none-then-some) → cond c.is-none-then-some.result 13 (rest-13 c 6) ≡ rest-13 c 0
@@ -70,7 +70,7 @@ at-13 c = (λ i. cond (c.is-none-then-some.ensures i) 13 (rest-13 c 6)) ∙ pass
 at-14 : (c : tie.After-is-marked) → cond c.is-marked.result 14 (rest-14 c 7) ≡ rest-14 c 0
 at-14 c = (λ i. cond (c.is-marked.ensures i) 14 (rest-14 c 7)) ∙ passed 13 _ (at-13 c.before.before) c.before.if6.false
 
-at-15 : (c : tie.Else7) → cond (leb mostEvents c.before.before.before.before.before.before.before.before.before.before.before.before.before.before.before.before.before.before.before.before.before.before.before.args.events) 15 0 ≡ rest-14 c.before 0
+at-15 : (c : tie.Else7) → cond (leb most_events c.before.before.before.before.before.before.before.before.before.before.before.before.before.before.before.before.before.before.before.before.before.before.before.args.events) 15 0 ≡ rest-14 c.before 0
 at-15 c = passed 14 _ (at-14 c.before) c.if7.false
 
 returns : tie.Need-returns

@@ -2,9 +2,9 @@
 use mathlib.Core.Path.{◌∙◌}
 use mathlib.Core.Bool.{◌||◌, not, cond}
 use lib.Dec.{leb}
-use Rattle.codes.specs.Ranges.{mostEvents}
-use Rattle.limits.specs.Limits.{figuresAbove}
-use Rattle.record.specs.Inside.{firstOf}
+use Rattle.codes.specs.Ranges.{most_events}
+use Rattle.limits.specs.Limits.{figures_above}
+use Rattle.record.specs.Inside.{first_of}
 use borrow.Author.Rules.{rules}
 use Rattle.record.proofs.stepped_answer.Statement.{statement}
 use Rattle.record.proofs.stepped_answer.Tie as tie
@@ -19,10 +19,10 @@ returns c =
     let high = used.before in
     let level = high.before in
     let a = level.before.before.before.before.before.args in
-    let above = high.figures-above.ensures ∙ (λ i. figuresAbove (level.level-of.ensures i) a.w.course.figures) in
-    let others = rest.first-of-four.ensures ∙ (λ i. cond (above i) 12 (cond (used.is-marked.ensures i) 14 (cond (leb mostEvents a.events) 15 0))) in
+    let above = high.figures-above.ensures ∙ (λ i. figures_above (level.level-of.ensures i) a.w.course.figures) in
+    let others = rest.first-of-four.ensures ∙ (λ i. cond (above i) 12 (cond (used.is-marked.ensures i) 14 (cond (leb most_events a.events) 15 0))) in
     c.first_of.ensures ∙
-    (λ i. firstOf (not a.sheet.there) (not (known.listed.ensures i)) (leb (begins.minutes-in.ensures i) a.head.t0 || a.w.late) (over.figures-exceed.ensures i) (others i))
+    (λ i. first_of (not a.sheet.there) (not (known.listed.ensures i)) (leb (begins.minutes-in.ensures i) a.head.t0 || a.w.late) (over.figures-exceed.ensures i) (others i))
 
 pub stepped-answer-spec : {M : Type 1} → statement M
 stepped-answer-spec =

@@ -1,4 +1,4 @@
--- The two tests of `deadRest`. Assumes nothing.
+-- The two tests of `dead_rest`. Assumes nothing.
 use borrow.Author.Rules.{rules}
 use Rattle.records.proofs.is_dead.Statement.{statement}
 use Rattle.records.proofs.is_dead.Tie as tie

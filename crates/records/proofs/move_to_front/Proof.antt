@@ -3,7 +3,7 @@
 use Prim.Native.Nat.{◌-◌}
 use native.Mathlib.Omega.{arith}
 use borrow.Author.Rules.{rules}
-use Rattle.records.proofs.MoveLaws.{Moving, moved-short, moving-begins, moving-on, moving-ends}
+use Rattle.records.proofs.MoveLaws.{Moving, moved_short, moving_begins, moving_on, moving_ends}
 use Rattle.records.proofs.move_to_front.Statement.{statement}
 use Rattle.records.proofs.move_to_front.Tie as tie
 
@@ -14,10 +14,10 @@ abbrev decreases-loop : tie.decreases-loop
 decreases-loop buffer₀ start end from₀ to₀ buffer from to = end - from
 
 returns : tie.Need-returns invariant-loop decreases-loop
-returns c = let a = c.before.args in moved-short a.buffer.now a.start a.end c.if1.true
+returns c = let a = c.before.args in moved_short a.buffer.now a.start a.end c.if1.true
 
 loop-holds : tie.Need-loop-init invariant-loop decreases-loop
-loop-holds c = let a = c.before.args in moving-begins a.buffer.now a.start a.end
+loop-holds c = let a = c.before.args in moving_begins a.buffer.now a.start a.end
 
 slice-read-b : tie.Need-slice-read-b invariant-loop decreases-loop
 slice-read-b c = let m = c.before.before.loop.invariant in omega (arith, m.size)
@@ -32,7 +32,7 @@ loop-again : tie.Need-loop-preserved invariant-loop decreases-loop
 loop-again c =
     let a = c.before.before.before.before.args in
     let g = c.before.before.loop in
-    moving-on a.buffer.now a.start a.end g.buffer g.from g.to g.invariant c.before.before.before.if1.false c.before.loop-test.true
+    moving_on a.buffer.now a.start a.end g.buffer g.from g.to g.invariant c.before.before.before.if1.false c.before.loop-test.true
 
 same_length : tie.Need-same-length invariant-loop decreases-loop
 same_length c = c.before.loop.invariant.size
@@ -41,7 +41,7 @@ returns-2 : tie.Need-returns-2 invariant-loop decreases-loop
 returns-2 c =
     let a = c.before.before.before.args in
     let g = c.before.loop in
-    moving-ends a.buffer.now a.start a.end g.buffer g.from g.to g.invariant c.before.before.if1.false c.loop-test.false
+    moving_ends a.buffer.now a.start a.end g.buffer g.from g.to g.invariant c.before.before.if1.false c.loop-test.false
 
 pub move-to-front-spec : {M : Type 1} → statement M
 move-to-front-spec =

@@ -1,5 +1,5 @@
 -- The pieces of the first line in their order, each pushed after the one before. Assumes nothing.
-use Rattle.text.proofs.TextLaws.{pushed-all-append}
+use Rattle.text.proofs.TextLaws.{pushed_all_append}
 use borrow.Author.Rules.{rules}
 use Rattle.report.proofs.with_head.Statement.{statement}
 use Rattle.report.proofs.with_head.Tie as tie
@@ -7,7 +7,7 @@ use Rattle.report.proofs.with_head.Tie as tie
 returns : tie.Need-returns
 returns c =
     simp (
-      pushed-all-append,
+      pushed_all_append,
       c.with_byte.ensures,
       c.before.with-number3.ensures,
       c.before.before.with-words4.ensures,

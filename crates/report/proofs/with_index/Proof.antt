@@ -1,7 +1,7 @@
 -- A space, then the figure of the index with two decimals. Assumes nothing.
 use mathlib.Core.Path.{◌≡◌, refl}
-use Rattle.index.specs.Index.{shownIndex}
-use Rattle.index.proofs.NumberLaws.{decimal-is}
+use Rattle.index.specs.Index.{shown_index}
+use Rattle.index.proofs.NumberLaws.{decimal_is}
 use borrow.Author.Rules.{rules}
 use Rattle.report.proofs.with_index.Statement.{statement}
 use Rattle.report.proofs.with_index.Tie as tie
@@ -9,7 +9,7 @@ use Rattle.report.proofs.with_index.Tie as tie
 returns : tie.Need-returns
 returns c =
     let a = c.before.before.before.args in
-    let shown : c.before.decimal-of.result ≡ shownIndex a.ledger a.index a.level a.set 2 = decimal-is _ _ _ _ _ _ c.before.decimal-of.ensures in
+    let shown : c.before.decimal-of.result ≡ shown_index a.ledger a.index a.level a.set 2 = decimal_is _ _ _ _ _ _ c.before.decimal-of.ensures in
     rw (c.with-figure.ensures, shown, c.before.before.with_byte.ensures) refl
 
 pub with-index-spec : {M : Type 1} → statement M

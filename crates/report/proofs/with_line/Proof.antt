@@ -1,5 +1,5 @@
 -- The pieces of a line in their order, each pushed after the one before. Assumes nothing.
-use Rattle.text.proofs.TextLaws.{pushed-all-append}
+use Rattle.text.proofs.TextLaws.{pushed_all_append}
 use borrow.Author.Rules.{rules}
 use Rattle.report.proofs.with_line.Statement.{statement}
 use Rattle.report.proofs.with_line.Tie as tie
@@ -7,7 +7,7 @@ use Rattle.report.proofs.with_line.Tie as tie
 returns : tie.Need-returns
 returns c =
     simp (
-      pushed-all-append,
+      pushed_all_append,
       c.with-byte2.ensures,
       c.before.with-index3.ensures,
       c.before.before.with-index2.ensures,

@@ -5,16 +5,16 @@ use Rattle.codes.specs.declared.Set.{Set}
 use Rattle.codes.specs.declared.Set.TheVariants.{All, Std}
 use Rattle.index.specs.declared.Level.{Level}
 use Rattle.index.specs.declared.Level.TheVariants.{NN, VN, VVN, Network}
-use Rattle.report.specs.Report.{lineText}
-use Rattle.report.proofs.ReportLaws.{eight-pieces}
+use Rattle.report.specs.Report.{line_text}
+use Rattle.report.proofs.ReportLaws.{eight_pieces}
 use borrow.Author.Rules.{rules}
 use Rattle.report.proofs.with_lines.Statement.{statement}
 use Rattle.report.proofs.with_lines.Tie as tie
 
 returns : tie.Need-returns
 returns c =
-    let line : Level → Set → List ℕ = lineText c.before.before.before.before.before.before.before.before.args.ledger in
-    eight-pieces c.before.before.before.before.before.before.before.before.args.t
+    let line : Level → Set → List ℕ = line_text c.before.before.before.before.before.before.before.before.args.ledger in
+    eight_pieces c.before.before.before.before.before.before.before.before.args.t
     (line NN All) (line VN All) (line VVN All) (line Network All)
     (line NN Std) (line VN Std) (line VVN Std) (line Network Std)
     c.before.before.before.before.before.before.before.with-line.ensures

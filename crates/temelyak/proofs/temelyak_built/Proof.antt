@@ -4,7 +4,7 @@ use mathlib.Core.List.{[], ◌∷◌}
 use lib.ListN.{get_or-eq_default}
 use native.Mathlib.Omega.{arith}
 use borrow.Author.Rules.{rules}
-use Rattle.c_words.specs.Words.{ledgerWords}
+use Rattle.c_words.specs.Words.{ledger_words}
 use Rattle.c_words.specs.Header.{version}
 use Rattle.temelyak.proofs.temelyak_built.Statement.{statement}
 use Rattle.temelyak.proofs.temelyak_built.Tie as tie
@@ -17,7 +17,7 @@ returns-4 c = search rules
 
 returns-6 : tie.Need-returns-6
 returns-6 c =
-    sym (get_or-eq_default (version ∷ ledgerWords ∷ 72 ∷ 8192 ∷ 32 ∷ []) 0 {n = c.before.before.before.before.before.args.which} (omega arith))
+    sym (get_or-eq_default (version ∷ ledger_words ∷ 72 ∷ 8192 ∷ 32 ∷ []) 0 {n = c.before.before.before.before.before.args.which} (omega arith))
 
 pub temelyak-built-spec : {M : Type 1} → statement M
 temelyak-built-spec =

@@ -1,4 +1,4 @@
--- `temelyak::temelyak_serve` meets its contract: a walk of its MIR, by hand, of three calls in a row and no branch. All that it knows of the callees is that each meets its contract; what they come to is `serve-answer-is`, `serve-words-is`, `serve-map-is` and `serve-desk-is`.
+-- `temelyak::temelyak_serve` meets its contract: a walk of its MIR, by hand, of three calls in a row and no branch. All that it knows of the callees is that each meets its contract; what they come to is `serve_answer_is`, `serve_words_is`, `serve_map_is` and `serve_desk_is`.
 -- For `lent_ledger` the words are lent as `&`, for a lifetime that the walk makes. Map and desk go to `desk::serve` for good, and the words to `settle`, each at its own lifetime, share and ghost name (`gave_slice`). The message is Copy.
 -- Assumes nothing.
 use mathlib.Core.Path.{◌≡◌, refl, ◌∙◌, ap, subst}
@@ -43,13 +43,13 @@ use Rattle.ledger.proofs.Ledger.TheLaws as TLedger'
 use Rattle.slot.specs.declared.Slot.{Slot}
 use Rattle.desk_rules.specs.declared.Served.{Served}
 use Rattle.desk_rules.proofs.Served.TheLaws as TServed'
-use Rattle.desk_rules.specs.Serve.{servedOf, mapServed, deskServed}
+use Rattle.desk_rules.specs.Serve.{served_of, map_served, desk_served}
 use Rattle.desk.proofs.SlotLaws.{R}
-use Rattle.desk.proofs.Shared.{LentOut, lends_out, out-back}
-use Rattle.desk.proofs.Rows.{LedgerR, ServedR, ledger-vals, ledger-tells, ledger-makes, ledger-typed, served-vals, served-tells, served-makes, served-typed}
+use Rattle.desk.proofs.Shared.{LentOut, lends_out, out_back}
+use Rattle.desk.proofs.Rows.{LedgerR, ServedR, ledger_vals, ledger_tells, ledger_makes, ledger_typed, served_vals, served_tells, served_makes, served_typed}
 use Rattle.c_words.specs.Header.{headed}
-use Rattle.c_words.specs.Inside.{lentLedger, settled}
-use Rattle.temelyak.proofs.CallLaws.{serve-answer-is, serve-words-is, serve-map-is, serve-desk-is}
+use Rattle.c_words.specs.Inside.{lent_ledger, settled}
+use Rattle.temelyak.proofs.CallLaws.{serve_answer_is, serve_words_is, serve_map_is, serve_desk_is}
 use Rattle.c_words.specs.contracts.lent_ledger as lent-ledger
 use Rattle.c_words.proofs.lent_ledger.Symbol as lent-ledger-def
 use Rattle.c_words.proofs.lent_ledger.Symbol.{name as #c_words·lent-ledger}
@@ -66,7 +66,7 @@ use Rattle.temelyak.specs.contracts.temelyak_serve.Key.{name as #temelyak·temel
 use Rattle.temelyak.specs.contracts.temelyak_serve as temelyak-serve
 use Rattle.temelyak.proofs.temelyak_serve.Statement as stated
 use Rattle.temelyak.proofs.temelyak_serve.Code as code
-use Rattle.temelyak.specs.Inside.{handedBack}
+use Rattle.temelyak.specs.Inside.{handed_back}
 
 abbrev stayed : Stays (temelyak-serve.ended).signature.params (temelyak-serve.ended).kept
 stayed = (stay_none (λ _. u64) yes, (gave_slice (0 ∷ []) tt (plain (λ _. u64)), (gave_slice (1 ∷ []) tt (plain (λ _. u8)), (gave_slice (2 ∷ []) tt (plain (λ _. R)), (stay_none_slice (3 ∷ []) tt (plain (λ _. u8)) yes, tt)))))
@@ -83,8 +83,8 @@ module _ {M : Type 1} {𝓤 : Ura M} (𝓛 : Logic 𝓤) (mem : Memory → SProp
   Settle = triple_of 𝓛 settle.signature (settle.spec 𝓛 mem run)
 
   -- of the `ensured` of `lent_ledger`, the clause alone
-  lent-said : (κ : Lft) (h : ℕ) (w : Bor (List ℕ)) (r : Ledger) → ent 𝓤 (ensured 𝓛 lent-ledger.ended (lent-ledger.clauses 𝓛 mem run) (κ, tt) (h, (w, tt)) tt r) (fact 𝓤 (r ≡ lentLedger h w.now))
-  lent-said κ h w r = ex_e 𝓤 _ (λ ws. snd∗ 𝓤 (sem 𝓛 (lasts lent-ledger.ended (κ, tt) (h, (w, tt)) ws)) (fact 𝓤 (r ≡ lentLedger h w.now)))
+  lent-said : (κ : Lft) (h : ℕ) (w : Bor (List ℕ)) (r : Ledger) → ent 𝓤 (ensured 𝓛 lent-ledger.ended (lent-ledger.clauses 𝓛 mem run) (κ, tt) (h, (w, tt)) tt r) (fact 𝓤 (r ≡ lent_ledger h w.now))
+  lent-said κ h w r = ex_e 𝓤 _ (λ ws. snd∗ 𝓤 (sem 𝓛 (lasts lent-ledger.ended (κ, tt) (h, (w, tt)) ws)) (fact 𝓤 (r ≡ lent_ledger h w.now)))
 
 module _ {M : Type 1} {𝓤 : Ura M} (𝓛 : Logic 𝓤) (mem : Memory → SProp 𝓤) (run : Routine → Fun 𝓤) (κ₀ κ₁ κ₂ κ₃ : Lft) (q₀ q₁ q₂ q₃ : Share) (h : ℕ)
     (b₀ c₀ : ℕ) (γ₀ : GName) (ws : List ℕ) (m : MutBor (List ℕ)) (d : MutBor (List Slot)) (s : MutBor (List ℕ))
@@ -131,10 +131,10 @@ module _ {M : Type 1} {𝓤 : Ura M} (𝓛 : Logic 𝓤) (mem : Memory → SProp
 
   -- the ledger handed on, what the desk makes of it, and the answer
   abbrev l : Ledger
-  l = lentLedger h ws
+  l = lent_ledger h ws
 
   abbrev t : Served
-  t = servedOf l m.now d.now s.now
+  t = served_of l m.now d.now s.now
 
   abbrev r : ℕ
   r = headed h t.answer
@@ -142,13 +142,13 @@ module _ {M : Type 1} {𝓤 : Ura M} (𝓛 : Logic 𝓤) (mem : Memory → SProp
   abbrev Post : Val → SProp 𝓤
   Post = (walk_of 𝓛 temelyak-serve.ended stayed (temelyak-serve.clauses 𝓛 mem run)).post (((κ₀, (κ₁, (κ₂, (κ₃, tt)))), (q₀, (q₁, (q₂, (q₃, tt)))), tt, a, at), tt)
 
-  exits : (us cs : List ℕ) (zs : List Slot) → us ≡ settled h ws (handedBack t) → cs ≡ mapServed l m.now d.now s.now → zs ≡ deskServed l m.now d.now s.now
+  exits : (us cs : List ℕ) (zs : List Slot) → us ≡ settled h ws (handed_back t) → cs ≡ map_served l m.now d.now s.now → zs ≡ desk_served l m.now d.now s.now
       → length us ≡ length ws → length cs ≡ length m.now → length zs ≡ length d.now → r < 2 ^ 32
       → ent 𝓤 (⋆ 𝓛 (‵ (flft κ₀ q₀) ∷ ‵ (flft κ₁ q₁) ∷ ‵ (flft κ₂ q₂) ∷ ‵ (flft κ₃ q₃) ∷ ‵ (finally u64 γ₀ us) ∷ ‵ (finally u8 m.name cs) ∷ ‵ (finally R d.name zs) ∷ ‵ Own₃ ∷ [])) (Post (vint w32 r))
   exits us cs zs e₀ e₁ e₂ n₀ n₁ n₂ fits =
       qed 𝓛 (‵ (flft κ₀ q₀) ∷ ‵ (flft κ₁ q₁) ∷ ‵ (flft κ₂ q₂) ∷ ‵ (flft κ₃ q₃) ∷ ‵ (finally u64 γ₀ us) ∷ ‵ (finally u8 m.name cs) ∷ ‵ (finally R d.name zs) ∷ ‵ Own₃ ∷ []) ∵
       suffices ! _ (ends_at 𝓛 temelyak-serve.ended stayed (temelyak-serve.clauses 𝓛 mem run) (((κ₀, (κ₁, (κ₂, (κ₃, tt)))), (q₀, (q₁, (q₂, (q₃, tt)))), tt, a, at), tt) (vint w32 r) r (tt, (us, (cs, (zs, (tt, tt))))) (tt, (n₀, (n₁, (n₂, (tt, tt)))))) $
-      says ! (serve-answer-is h ws m.now d.now s.now, e₀ ∙ serve-words-is h ws m.now d.now s.now, e₁ ∙ serve-map-is h ws m.now d.now s.now, e₂ ∙ serve-desk-is h ws m.now d.now s.now) $
+      says ! (serve_answer_is h ws m.now d.now s.now, e₀ ∙ serve_words_is h ws m.now d.now s.now, e₁ ∙ serve_map_is h ws m.now d.now s.now, e₂ ∙ serve_desk_is h ws m.now d.now s.now) $
       nothing ! $ move ! (4 ∷ 0 ∷ []) $ join ! $ move ! (3 ∷ 0 ∷ []) $ join ! $ move ! (2 ∷ 0 ∷ []) $ join ! $ move ! (1 ∷ 0 ∷ []) $ join ! $ frame ! $ nothing ! $ move ! (4 ∷ 0 ∷ []) $ fjoin ! $ move ! (3 ∷ 0 ∷ []) $ fjoin ! $ move ! (2 ∷ 0 ∷ []) $ fjoin ! $ move ! (1 ∷ 0 ∷ []) $ fjoin ! $ owned ! u64 (Is u64) (uint_Makes 𝓛 w64) h _ (refl, h_fits) $ fjoin ! $ frame ! $ owned ! u32 (Is u32) (uint_Makes 𝓛 w32) r _ (refl, fits) $ done !
 
   -- what each callee's triple binds outside, and that the caller has what it asks
@@ -160,18 +160,18 @@ module _ {M : Type 1} {𝓤 : Ura M} (𝓛 : Logic 𝓤) (mem : Memory → SProp
       qed 𝓛 (‵ (flft (ν ∷ []) full_share) ∷ ‵ ((ShrSlice (named 0) (ν ∷ []) u64).own_val (w δ) (v₀ ∷ [])) ∷ []) ∵ nothing ! $ move ! (1 ∷ 0 ∷ []) $ join ! $ nothing ! $ move ! (2 ∷ 0 ∷ []) $ fjoin ! $ owned ! u64 (Is u64) (uint_Makes 𝓛 w64) h _ (refl, h_fits) $ fjoin ! $ move ! (1 ∷ 0 ∷ []) $ join ! $ frame ! $ done !
 
   abbrev to-serve : (Serve 𝓛 mem run).Ghost
-  to-serve = (((κ₁, (κ₂, (κ₃, tt))), (q₁, (q₂, (q₃, tt))), tt, (l, (m, (d, (s, tt)))), (ledger-vals l, (v₁ ∷ [], (v₂ ∷ [], (v₃ ∷ [], tt))))), tt)
+  to-serve = (((κ₁, (κ₂, (κ₃, tt))), (q₁, (q₂, (q₃, tt))), tt, (l, (m, (d, (s, tt)))), (ledger_vals l, (v₁ ∷ [], (v₂ ∷ [], (v₃ ∷ [], tt))))), tt)
 
-  goes-serve : Is LedgerR l (ledger-vals l) → ent 𝓤 (⋆ 𝓛 (‵ (flft κ₁ q₁) ∷ ‵ (flft κ₂ q₂) ∷ ‵ (flft κ₃ q₃) ∷ ‵ Own₁ ∷ ‵ Own₂ ∷ ‵ Own₃ ∷ [])) ((Serve 𝓛 mem run).pre to-serve)
+  goes-serve : Is LedgerR l (ledger_vals l) → ent 𝓤 (⋆ 𝓛 (‵ (flft κ₁ q₁) ∷ ‵ (flft κ₂ q₂) ∷ ‵ (flft κ₃ q₃) ∷ ‵ Own₁ ∷ ‵ Own₂ ∷ ‵ Own₃ ∷ [])) ((Serve 𝓛 mem run).pre to-serve)
   goes-serve g =
-      qed 𝓛 (‵ (flft κ₁ q₁) ∷ ‵ (flft κ₂ q₂) ∷ ‵ (flft κ₃ q₃) ∷ ‵ Own₁ ∷ ‵ Own₂ ∷ ‵ Own₃ ∷ []) ∵ nothing ! $ move ! (3 ∷ 0 ∷ []) $ join ! $ move ! (2 ∷ 0 ∷ []) $ join ! $ move ! (1 ∷ 0 ∷ []) $ join ! $ nothing ! $ move ! (4 ∷ 0 ∷ []) $ fjoin ! $ move ! (3 ∷ 0 ∷ []) $ fjoin ! $ move ! (2 ∷ 0 ∷ []) $ fjoin ! $ owned ! LedgerR (Is LedgerR) (ledger-makes 𝓛) l _ g $ fjoin ! $ move ! (1 ∷ 0 ∷ []) $ join ! $ frame ! $ done !
+      qed 𝓛 (‵ (flft κ₁ q₁) ∷ ‵ (flft κ₂ q₂) ∷ ‵ (flft κ₃ q₃) ∷ ‵ Own₁ ∷ ‵ Own₂ ∷ ‵ Own₃ ∷ []) ∵ nothing ! $ move ! (3 ∷ 0 ∷ []) $ join ! $ move ! (2 ∷ 0 ∷ []) $ join ! $ move ! (1 ∷ 0 ∷ []) $ join ! $ nothing ! $ move ! (4 ∷ 0 ∷ []) $ fjoin ! $ move ! (3 ∷ 0 ∷ []) $ fjoin ! $ move ! (2 ∷ 0 ∷ []) $ fjoin ! $ owned ! LedgerR (Is LedgerR) (ledger_makes 𝓛) l _ g $ fjoin ! $ move ! (1 ∷ 0 ∷ []) $ join ! $ frame ! $ done !
 
   abbrev to-settle : (Settle 𝓛 mem run).Ghost
-  to-settle = (((κ₀, tt), (q₀, tt), tt, (h, (w γ₀, (t, tt))), (vint w64 h ∷ [], (v₀ ∷ [], (served-vals t, tt)))), tt)
+  to-settle = (((κ₀, tt), (q₀, tt), tt, (h, (w γ₀, (t, tt))), (vint w64 h ∷ [], (v₀ ∷ [], (served_vals t, tt)))), tt)
 
-  goes-settle : Is ServedR t (served-vals t) → ent 𝓤 (⋆ 𝓛 (‵ (flft κ₀ q₀) ∷ ‵ Own₀ ∷ [])) ((Settle 𝓛 mem run).pre to-settle)
+  goes-settle : Is ServedR t (served_vals t) → ent 𝓤 (⋆ 𝓛 (‵ (flft κ₀ q₀) ∷ ‵ Own₀ ∷ [])) ((Settle 𝓛 mem run).pre to-settle)
   goes-settle g =
-      qed 𝓛 (‵ (flft κ₀ q₀) ∷ ‵ Own₀ ∷ []) ∵ nothing ! $ move ! (1 ∷ 0 ∷ []) $ join ! $ nothing ! $ owned ! ServedR (Is ServedR) (served-makes 𝓛) t _ g $ fjoin ! $ move ! (2 ∷ 0 ∷ []) $ fjoin ! $ owned ! u64 (Is u64) (uint_Makes 𝓛 w64) h _ (refl, h_fits) $ fjoin ! $ move ! (1 ∷ 0 ∷ []) $ join ! $ frame ! $ done !
+      qed 𝓛 (‵ (flft κ₀ q₀) ∷ ‵ Own₀ ∷ []) ∵ nothing ! $ move ! (1 ∷ 0 ∷ []) $ join ! $ nothing ! $ owned ! ServedR (Is ServedR) (served_makes 𝓛) t _ g $ fjoin ! $ move ! (2 ∷ 0 ∷ []) $ fjoin ! $ owned ! u64 (Is u64) (uint_Makes 𝓛 w64) h _ (refl, h_fits) $ fjoin ! $ move ! (1 ∷ 0 ∷ []) $ join ! $ frame ! $ done !
 
   module _ (C : Calls 𝓤 H) (Λ : Loops 𝓤 H) (fm : FmC 𝓤 H 𝓛.laws C) (known-lent-ledger : Triple 𝓤 (C #c_words·lent-ledger) (LentLedger 𝓛 mem run)) (known-serve : Triple 𝓤 (C #desk·serve) (Serve 𝓛 mem run)) (known-settle : Triple 𝓤 (C #temelyak·settle-served) (Settle 𝓛 mem run)) where
     walk : ent 𝓤 (on_entry 𝓛 temelyak-serve.signature (κ₀, (κ₁, (κ₂, (κ₃, tt)))) (q₀, (q₁, (q₂, (q₃, tt)))) a at) (WpFn 𝓤 H C Λ code.function (vint w64 h ∷ v₀ ∷ v₁ ∷ v₂ ∷ v₃ ∷ []) Post)
@@ -190,30 +190,30 @@ module _ {M : Type 1} {𝓤 : Ura M} (𝓛 : Logic 𝓤) (mem : Memory → SProp
         calls_at ! fm (LentLedger 𝓛 mem run) known-lent-ledger (to-lent-ledger ν δ) (and_then ! (load ! (from ! (stop !)) (look ! 36 refl)) (and_then ! (load ! (from ! (stop !)) (look ! 20 refl)) (no_more !))) (λ w₁.
         use1 𝓛 (later (some (λ (r : Ledger). ((‵ (flft (ν ∷ []) full_share) ⊛ ‵ ftrue) ⊛ ‵ (LedgerR.own_val r (w₁ ∷ []))) ⊛ raw (ensured 𝓛 lent-ledger.ended (lent-ledger.clauses 𝓛 mem run) (to-lent-ledger ν δ).0.0 (to-lent-ledger ν δ).0.3 tt r)))) (id⊢ 𝓤 _) $ await ! tt $ pick ! (λ r₁.
         split ! $ move ! (1 ∷ []) $ use1 𝓛 (raw (fact 𝓤 (r₁ ≡ l))) (lent-said 𝓛 mem run (ν ∷ []) h (w δ) r₁) $ heard ! (r₁ ≡ l) (λ e₁. split ! $ move ! (1 ∷ []) $ rewrite ! 0 (λ (r : Ledger). ‵ (LedgerR.own_val r (w₁ ∷ []))) e₁ refl $ facts ! LedgerR (Is LedgerR) (shows 𝓛 LedgerR) (l) (w₁ ∷ []) (λ is₁.
-        land ! (from ! (stop !)) (init ! 26 refl (ledger-typed 𝓛 l _ is₁)) $ rewrite ! 26 (λ (u : Val). ‵ (fat full_share TLedger'.mir l₆ 0 u)) (ap only (ledger-tells l _ is₁)) refl $ split ! $ move ! (1 ∷ []) $ drop ! $
-        lft_end ! tt $ use2 𝓛 (later (‵ Own₀ ⊛ ‵ (flft κ₀ q₀))) (out-back u64 κ₀ (ν ∷ []) q₀ γ₀ b₀ c₀ ws 𝓛 (named 0) (named 0) room₀) $ await ! tt $ split ! $
+        land ! (from ! (stop !)) (init ! 26 refl (ledger_typed 𝓛 l _ is₁)) $ rewrite ! 26 (λ (u : Val). ‵ (fat full_share TLedger'.mir l₆ 0 u)) (ap only (ledger_tells l _ is₁)) refl $ split ! $ move ! (1 ∷ []) $ drop ! $
+        lft_end ! tt $ use2 𝓛 (later (‵ Own₀ ⊛ ‵ (flft κ₀ q₀))) (out_back u64 κ₀ (ν ∷ []) q₀ γ₀ b₀ c₀ ws 𝓛 (named 0) (named 0) room₀) $ await ! tt $ split ! $
         -- `desk::serve`
         assigns ! (addr ! (from ! (fld ! refl (hop ! (look_in ! 32 (sub ! 0 refl (whole !))) (stop !))))) (from ! (stop !)) (init ! 18 refl (tt, tt)) $
         assigns ! (agg ! (and_then ! (load ! (from ! (stop !)) (look ! 18 refl)) (and_then ! (load ! (from ! (fld ! refl (stop !))) (look_in ! 32 (sub ! 1 refl (whole !)))) (no_more !)))) (from ! (stop !)) (init ! 16 refl (tt, (tt, (record { fits = room₁.0 }, tt)))) $
         assigns ! (addr ! (from ! (fld ! refl (hop ! (look_in ! 30 (sub ! 0 refl (whole !))) (stop !))))) (from ! (stop !)) (init ! 14 refl (tt, tt)) $
         assigns ! (agg ! (and_then ! (load ! (from ! (stop !)) (look ! 14 refl)) (and_then ! (load ! (from ! (fld ! refl (stop !))) (look_in ! 30 (sub ! 1 refl (whole !)))) (no_more !)))) (from ! (stop !)) (init ! 12 refl (tt, (tt, (record { fits = room₂.0 }, tt)))) $
-        move ! (7 ∷ []) $ use1 𝓛 (‵ Own₃ ⊛ ‵ Own₃) ((shr_slice_copy 𝓛 (named 3) κ₃ u8).twice s (v₃ ∷ [])) $ split ! $ move ! (4 ∷ 5 ∷ 6 ∷ 7 ∷ 8 ∷ 0 ∷ []) $ group ! 6 $ use1 𝓛 (raw ((Serve 𝓛 mem run).pre to-serve)) (goes-serve (subst (Is LedgerR l) (ledger-tells l _ is₁) is₁)) $
+        move ! (7 ∷ []) $ use1 𝓛 (‵ Own₃ ⊛ ‵ Own₃) ((shr_slice_copy 𝓛 (named 3) κ₃ u8).twice s (v₃ ∷ [])) $ split ! $ move ! (4 ∷ 5 ∷ 6 ∷ 7 ∷ 8 ∷ 0 ∷ []) $ group ! 6 $ use1 𝓛 (raw ((Serve 𝓛 mem run).pre to-serve)) (goes-serve (subst (Is LedgerR l) (ledger_tells l _ is₁) is₁)) $
         calls_at ! fm (Serve 𝓛 mem run) known-serve to-serve (and_then ! (load ! (from ! (stop !)) (look ! 22 refl)) (and_then ! (load ! (from ! (stop !)) (look ! 12 refl)) (and_then ! (load ! (from ! (stop !)) (look ! 8 refl)) (and_then ! (load ! (from ! (stop !)) (look ! 24 refl)) (no_more !))))) (λ w₂.
         use1 𝓛 (later (some (λ (r : Served). ((‵ (flft κ₁ q₁) ⊛ ‵ (flft κ₂ q₂) ⊛ ‵ (flft κ₃ q₃) ⊛ ‵ ftrue) ⊛ ‵ (ServedR.own_val r (w₂ ∷ []))) ⊛ raw (ensured 𝓛 serve.ended (serve.clauses 𝓛 mem run) to-serve.0.0 to-serve.0.3 tt r)))) (id⊢ 𝓤 _) $ await ! tt $ pick ! (λ r₂.
-        split ! $ move ! (1 ∷ []) $ use1 𝓛 (some (λ (zs : Unit {0} × (List ℕ × (List Slot × (Unit {0} × Unit {0})))). ‵ (lasts serve.ended to-serve.0.0 to-serve.0.3 zs) ⊛ raw (fact 𝓤 ((r₂ ≡ t) × (zs.1.0 ≡ mapServed l m.now d.now s.now) × (zs.1.1.0 ≡ deskServed l m.now d.now s.now))))) (id⊢ 𝓤 _) $ pick ! (λ zs.
-        split ! $ move ! (1 ∷ []) $ heard ! ((r₂ ≡ t) × (zs.1.0 ≡ mapServed l m.now d.now s.now) × (zs.1.1.0 ≡ deskServed l m.now d.now s.now)) (λ e₂.
+        split ! $ move ! (1 ∷ []) $ use1 𝓛 (some (λ (zs : Unit {0} × (List ℕ × (List Slot × (Unit {0} × Unit {0})))). ‵ (lasts serve.ended to-serve.0.0 to-serve.0.3 zs) ⊛ raw (fact 𝓤 ((r₂ ≡ t) × (zs.1.0 ≡ map_served l m.now d.now s.now) × (zs.1.1.0 ≡ desk_served l m.now d.now s.now))))) (id⊢ 𝓤 _) $ pick ! (λ zs.
+        split ! $ move ! (1 ∷ []) $ heard ! ((r₂ ≡ t) × (zs.1.0 ≡ map_served l m.now d.now s.now) × (zs.1.1.0 ≡ desk_served l m.now d.now s.now)) (λ e₂.
         fsplit ! $ drop ! $ fsplit ! $ fsplit ! $ move ! (1 ∷ []) $ feq_l ! (λ n₁. move ! (1 ∷ []) $ fsplit ! $ fsplit ! $ move ! (1 ∷ []) $ feq_l ! (λ n₂. move ! (1 ∷ []) $ drop ! $
         move ! (2 ∷ []) $ split ! $ move ! (1 ∷ []) $ rewrite ! 0 (λ (x : Served). ‵ (ServedR.own_val x (w₂ ∷ []))) e₂.0 refl $ facts ! ServedR (Is ServedR) (shows 𝓛 ServedR) t (w₂ ∷ []) (λ is₂.
-        land ! (from ! (stop !)) (init ! 22 refl (served-typed 𝓛 t _ is₂)) $ rewrite ! 22 (λ (u : Val). ‵ (fat full_share TServed'.mir l₇ 0 u)) (ap only (served-tells t _ is₂)) refl $
+        land ! (from ! (stop !)) (init ! 22 refl (served_typed 𝓛 t _ is₂)) $ rewrite ! 22 (λ (u : Val). ‵ (fat full_share TServed'.mir l₇ 0 u)) (ap only (served_tells t _ is₂)) refl $
         split ! $ move ! (1 ∷ []) $ split ! $ move ! (1 ∷ []) $ split ! $ move ! (1 ∷ []) $ drop ! $
         -- `settle_served`
         assigns ! (addr ! (from ! (fld ! refl (hop ! (look_in ! 34 (sub ! 0 refl (whole !))) (stop !))))) (from ! (stop !)) (init ! 10 refl (tt, tt)) $
         assigns ! (agg ! (and_then ! (load ! (from ! (stop !)) (look ! 10 refl)) (and_then ! (load ! (from ! (fld ! refl (stop !))) (look_in ! 34 (sub ! 1 refl (whole !)))) (no_more !)))) (from ! (stop !)) (init ! 8 refl (tt, (tt, (record { fits = room₀.0 }, tt)))) $
-        move ! (7 ∷ 6 ∷ []) $ use2 𝓛 (raw ((Settle 𝓛 mem run).pre to-settle)) (goes-settle (subst (Is ServedR t) (served-tells t _ is₂) is₂)) $
+        move ! (7 ∷ 6 ∷ []) $ use2 𝓛 (raw ((Settle 𝓛 mem run).pre to-settle)) (goes-settle (subst (Is ServedR t) (served_tells t _ is₂) is₂)) $
         calls_at ! fm (Settle 𝓛 mem run) known-settle to-settle (and_then ! (load ! (from ! (stop !)) (look ! 35 refl)) (and_then ! (load ! (from ! (stop !)) (look ! 7 refl)) (and_then ! (load ! (from ! (stop !)) (look ! 23 refl)) (no_more !)))) (λ w₃.
         use1 𝓛 (later (some (λ (r : ℕ). ((‵ (flft κ₀ q₀) ⊛ ‵ ftrue) ⊛ ‵ (u32.own_val r (w₃ ∷ []))) ⊛ raw (ensured 𝓛 settle.ended (settle.clauses 𝓛 mem run) to-settle.0.0 to-settle.0.3 tt r)))) (id⊢ 𝓤 _) $ await ! tt $ pick ! (λ r₃.
-        split ! $ move ! (1 ∷ []) $ use1 𝓛 (some (λ (us : Unit {0} × (List ℕ × (Unit {0} × Unit {0}))). ‵ (lasts settle.ended (κ₀, tt) to-settle.0.3 us) ⊛ raw (fact 𝓤 ((r₃ ≡ r) × (us.1.0 ≡ settled h ws (handedBack t)))))) (id⊢ 𝓤 _) $ pick ! (λ us.
-        split ! $ move ! (1 ∷ []) $ heard ! ((r₃ ≡ r) × (us.1.0 ≡ settled h ws (handedBack t))) (λ e₃.
+        split ! $ move ! (1 ∷ []) $ use1 𝓛 (some (λ (us : Unit {0} × (List ℕ × (Unit {0} × Unit {0}))). ‵ (lasts settle.ended (κ₀, tt) to-settle.0.3 us) ⊛ raw (fact 𝓤 ((r₃ ≡ r) × (us.1.0 ≡ settled h ws (handed_back t)))))) (id⊢ 𝓤 _) $ pick ! (λ us.
+        split ! $ move ! (1 ∷ []) $ heard ! ((r₃ ≡ r) × (us.1.0 ≡ settled h ws (handed_back t))) (λ e₃.
         fsplit ! $ drop ! $ fsplit ! $ fsplit ! $ move ! (1 ∷ []) $ feq_l ! (λ n₀. move ! (1 ∷ []) $ drop ! $
         move ! (1 ∷ []) $ split ! $ move ! (1 ∷ []) $ rewrite ! 0 (λ (x : ℕ). ‵ (u32.own_val x (w₃ ∷ []))) e₃.0 refl $ facts ! u32 (Is u32) (shows 𝓛 u32) r (w₃ ∷ []) (λ is₃.
         land ! (from ! (stop !)) (init ! 38 refl ((uint_Lawful 𝓛 w32).typed r _ is₃).0) $ rewrite ! 38 (λ (u : Val). ‵ (fat full_share (ty_int w32) l₀ 0 u)) (ap only is₃.0) refl $

@@ -2,10 +2,10 @@
 use mathlib.Core.Path.{ap, ◌∙◌}
 use Rattle.ledger.specs.declared.Ledger.{Ledger}
 use Rattle.ledger.specs.declared.Taken.{Taken}
-use Rattle.ledger.specs.Take.{mapAfter, taken_of}
+use Rattle.ledger.specs.Take.{map_after, taken_of}
 use Rattle.c_words.specs.Header.{headed}
 use Rattle.c_words.specs.Inside.{settled}
-use Rattle.temelyak.proofs.CallLaws.{take-answer-is, take-words-is, take-map-is}
+use Rattle.temelyak.proofs.CallLaws.{take_answer_is, take_words_is, take_map_is}
 use borrow.Author.Rules.{rules}
 use Rattle.temelyak.proofs.temelyak_take.Statement.{statement}
 use Rattle.temelyak.proofs.temelyak_take.Tie as tie
@@ -19,9 +19,9 @@ returns c =
     let l = c.before.before.before.before.before.before.before.before.lent-ledger.ensures in
     let t = c.before.before.before.before.before.before.take.ensures in
     let taken = t.0 ∙ ap (λ (x : Ledger). taken_of x m s) l in (
-      c.before.before.settle.ensures.0 ∙ ap (λ (x : Taken). headed a.header x.answer) taken ∙ take-answer-is a.header ws m s,
-      c.before.before.settle.ensures.1 ∙ ap (settled a.header ws) taken ∙ take-words-is a.header ws m s,
-      t.1 ∙ ap (λ (x : Ledger). mapAfter x m s) l ∙ take-map-is a.header ws m s,
+      c.before.before.settle.ensures.0 ∙ ap (λ (x : Taken). headed a.header x.answer) taken ∙ take_answer_is a.header ws m s,
+      c.before.before.settle.ensures.1 ∙ ap (settled a.header ws) taken ∙ take_words_is a.header ws m s,
+      t.1 ∙ ap (λ (x : Ledger). map_after x m s) l ∙ take_map_is a.header ws m s,
     )
 
 pub temelyak-take-spec : {M : Type 1} → statement M

@@ -6,10 +6,10 @@ use lib.ListN.{length}
 use borrow.Author.Tests.{eq-eqb, ne_eqb}
 use Rattle.ledger.specs.declared.Ledger.{Ledger}
 use Rattle.book.specs.declared.Read.{Read}
-use Rattle.book.specs.Book.{read_of, mapRead}
-use Rattle.c_words.specs.Header.{headed, ifAccepted}
+use Rattle.book.specs.Book.{read_of, map_read}
+use Rattle.c_words.specs.Header.{headed, if_accepted}
 use Rattle.c_words.specs.Inside.{settled}
-use Rattle.temelyak.proofs.CallLaws.{readTaken, readPair, book-answer-is, book-words-is, book-map-is, book-out-is, book-unpaired, book-left}
+use Rattle.temelyak.proofs.CallLaws.{read_taken, read_pair, book_answer_is, book_words_is, book_map_is, book_out_is, book_unpaired, book_left}
 use borrow.Author.Rules.{rules}
 use Rattle.temelyak.proofs.temelyak_take_book.Statement.{statement}
 use Rattle.temelyak.proofs.temelyak_take_book.Tie as tie
@@ -18,8 +18,8 @@ returns : tie.Need-returns
 returns c =
     let a = c.before.before.before.before.before.before.args in
     let p = ne_eqb (length a.out.now) 2 c.before.if1.true in
-    let left = book-left a.header a.ledger.now a.map.now a.bytes.now a.out.now p in
-    (c.answer-by.ensures ∙ book-unpaired a.header a.ledger.now a.map.now a.bytes.now a.out.now p, left.0, left.1, left.2)
+    let left = book_left a.header a.ledger.now a.map.now a.bytes.now a.out.now p in
+    (c.answer-by.ensures ∙ book_unpaired a.header a.ledger.now a.map.now a.bytes.now a.out.now p, left.0, left.1, left.2)
 
 returns-2 : tie.Need-returns-2
 returns-2 c =
@@ -31,17 +31,17 @@ returns-2 c =
     let out = a.out.now in
     let p = eq-eqb (length out) 2 c.before.before.before.before.before.before.before.before.before.before.before.before.before.before.before.before.if1.false in
     let l = c.before.before.before.before.before.before.before.before.before.before.before.before.before.before.lent-ledger.ensures in
-    let t = c.before.before.before.before.before.before.before.before.before.before.before.before.take-book.ensures in
+    let t = c.before.before.before.before.before.before.before.before.before.before.before.before.take_book.ensures in
     let read = t.0 ∙ ap (λ (x : Ledger). read_of x m b) l in
     let put = c.before.before.put.ensures in
     let broken = c.before.before.before.flag.ensures in (
-      put.0 ∙ ap (λ (x : Read). headed h x.answer) read ∙ book-answer-is h ws m b out p,
-      c.before.before.before.before.before.before.before.settle.ensures.1 ∙ ap (λ (x : Read). settled h ws (readTaken x)) read ∙ book-words-is h ws m b out p,
-      t.1 ∙ ap (λ (x : Ledger). mapRead x m b) l ∙ book-map-is h ws m b out p,
+      put.0 ∙ ap (λ (x : Read). headed h x.answer) read ∙ book_answer_is h ws m b out p,
+      c.before.before.before.before.before.before.before.settle.ensures.1 ∙ ap (λ (x : Read). settled h ws (read_taken x)) read ∙ book_words_is h ws m b out p,
+      t.1 ∙ ap (λ (x : Ledger). map_read x m b) l ∙ book_map_is h ws m b out p,
       put.1 ∙
-          (λ i. ifAccepted (headed h c.before.before.before.before.before.before.before.before.before.before.before.before.take-book.result.answer) (c.before.before.before.before.before.before.before.before.before.before.before.before.take-book.result.refused ∷ broken i ∷ []) out) ∙
-          ap (λ (x : Read). ifAccepted (headed h x.answer) (readPair x) out) read ∙
-          book-out-is h ws m b out p,
+          (λ i. if_accepted (headed h c.before.before.before.before.before.before.before.before.before.before.before.before.take_book.result.answer) (c.before.before.before.before.before.before.before.before.before.before.before.before.take_book.result.refused ∷ broken i ∷ []) out) ∙
+          ap (λ (x : Read). if_accepted (headed h x.answer) (read_pair x) out) read ∙
+          book_out_is h ws m b out p,
     )
 
 pub temelyak-take-book-spec : {M : Type 1} → statement M

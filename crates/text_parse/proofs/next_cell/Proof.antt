@@ -4,7 +4,7 @@ use lib.Dec.{eqb}
 use borrow.Author.Rules.{rules}
 use borrow.Author.Tests.{ne_eqb, eq-eqb}
 use Rattle.text_scan.specs.declared.Found.{Found}
-use Rattle.text_parse.proofs.EntryLaws.{cell-right, cell-wrong}
+use Rattle.text_parse.proofs.EntryLaws.{cell_right, cell_wrong}
 use Rattle.text_parse.proofs.next_cell.Statement.{statement}
 use Rattle.text_parse.proofs.next_cell.Tie as tie
 
@@ -13,13 +13,13 @@ returns c =
     let a = c.before.before.before.before.args in
     let e = c.before.before.gap-before.ensures in
     let wrong = sym (ap (λ (r : Found). eqb r.answer 0) e) ∙ ne_eqb c.before.before.gap-before.result.answer 0 c.if1.true in
-    e ∙ sym (cell-wrong a.s.now a.kind a.k a.year a.sep wrong)
+    e ∙ sym (cell_wrong a.s.now a.kind a.k a.year a.sep wrong)
 
 returns-2 : tie.Need-returns-2
 returns-2 c =
     let a = c.before.before.before.before.before.args in
     let right = sym (ap (λ (r : Found). eqb r.answer 0) c.before.before.before.gap-before.ensures) ∙ eq-eqb c.before.before.before.gap-before.result.answer 0 c.before.if1.false in
-    c.next_field.ensures ∙ sym (cell-right a.s.now a.kind a.k a.year a.sep right)
+    c.next_field.ensures ∙ sym (cell_right a.s.now a.kind a.k a.year a.sep right)
 
 pub next-cell-spec : {M : Type 1} → statement M
 next-cell-spec = tie.close

@@ -3,38 +3,38 @@ use mathlib.Core.Path.{◌≡◌, sym, ◌∙◌}
 use mathlib.Core.Bool.{true}
 use borrow.Author.Rules.{rules}
 use borrow.Author.Tests.{eq-eqb, ne_eqb, not-true, not-false}
-use Rattle.calendar.specs.Calendar.{minuteOf}
-use Rattle.text_scan.specs.Scan.{dateStands, dateMinute, dateFound}
+use Rattle.calendar.specs.Calendar.{minute_of}
+use Rattle.text_scan.specs.Scan.{date_stands, date_minute, date_found}
 use Rattle.text_scan.proofs.date_found.Statement.{statement}
 use Rattle.text_scan.proofs.date_found.Tie as tie
 
-stands : (c : tie.Else1) → dateStands c.before.before.before.args.s.now ≡ true
-stands c = sym c.before.date-stands.ensures ∙ not-false c.before.date-stands.result c.if1.false
+stands : (c : tie.Else1) → date_stands c.before.before.before.args.s.now ≡ true
+stands c = sym c.before.date_stands_lem.ensures ∙ not-false c.before.date_stands_lem.result c.if1.false
 
-minute : (c : tie.After-minute-of) → c.minute-of.result ≡ dateMinute c.before.before.before.before.before.before.before.before.before.args.s.now c.before.before.before.before.before.before.before.before.before.args.year
+minute : (c : tie.After-minute-of) → c.minute-of.result ≡ date_minute c.before.before.before.before.before.before.before.before.before.args.s.now c.before.before.before.before.before.before.before.before.before.args.year
 minute c =
     c.minute-of.ensures ∙
-    (λ i. minuteOf c.before.before.before.before.before.before.before.before.before.args.year (record { month = c.before.before.before.before.two_at.ensures i; day = c.before.before.before.two-at2.ensures i; hour = c.before.before.two-at3.ensures i; minute = c.before.two-at4.ensures i }))
+    (λ i. minute_of c.before.before.before.before.before.before.before.before.before.args.year (record { month = c.before.before.before.before.two_at.ensures i; day = c.before.before.before.two-at2.ensures i; hour = c.before.before.two-at3.ensures i; minute = c.before.two-at4.ensures i }))
 
 returns : tie.Need-returns
-unfolding dateFound
-returns c = rw (dateFound, ← c.before.date-stands.ensures, not-true c.before.date-stands.result c.if1.true)
+unfolding date_found
+returns c = rw (date_found, ← c.before.date_stands_lem.ensures, not-true c.before.date_stands_lem.result c.if1.true)
 
 returns-2 : tie.Need-returns-2
-unfolding dateFound
-returns-2 c = rw (dateFound, stands c.before, eq-eqb c.before.before.before.before.args.year 0 c.if2.true)
+unfolding date_found
+returns-2 c = rw (date_found, stands c.before, eq-eqb c.before.before.before.before.args.year 0 c.if2.true)
 
 returns-3 : tie.Need-returns-3
-unfolding dateFound
+unfolding date_found
 returns-3 c =
     let m = c.before.before.minute-of in
-    rw (dateFound, stands c.before.before.before.before.before.before.before.before, ne_eqb c.before.before.before.before.before.before.before.before.before.before.before.args.year 0 c.before.before.before.before.before.before.before.if2.false, ← minute c.before.before, not-true m.result.there c.if3.true)
+    rw (date_found, stands c.before.before.before.before.before.before.before.before, ne_eqb c.before.before.before.before.before.before.before.before.before.before.before.args.year 0 c.before.before.before.before.before.before.before.if2.false, ← minute c.before.before, not-true m.result.there c.if3.true)
 
 returns-4 : tie.Need-returns-4
-unfolding dateFound
+unfolding date_found
 returns-4 c =
     let m = c.before.before.minute-of in
-    rw (dateFound, stands c.before.before.before.before.before.before.before.before, ne_eqb c.before.before.before.before.before.before.before.before.before.before.before.args.year 0 c.before.before.before.before.before.before.before.if2.false, ← minute c.before.before, not-false m.result.there c.if3.false)
+    rw (date_found, stands c.before.before.before.before.before.before.before.before, ne_eqb c.before.before.before.before.before.before.before.before.before.before.before.args.year 0 c.before.before.before.before.before.before.before.if2.false, ← minute c.before.before, not-false m.result.there c.if3.false)
 
 pub date-found-spec : {M : Type 1} → statement M
 date-found-spec =

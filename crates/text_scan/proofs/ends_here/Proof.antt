@@ -1,11 +1,11 @@
 -- A line with no bytes has ended, and any other ends here if its first byte begins a comment. Assumes nothing.
 use borrow.Author.Rules.{rules}
-use Rattle.text_scan.proofs.ScanLaws.{empty-ends, first_ends}
+use Rattle.text_scan.proofs.ScanLaws.{empty_ends, first_ends}
 use Rattle.text_scan.proofs.ends_here.Statement.{statement}
 use Rattle.text_scan.proofs.ends_here.Tie as tie
 
 returns : tie.Need-returns
-returns c = empty-ends c.before.args.s.now c.if1.true
+returns c = empty_ends c.before.args.s.now c.if1.true
 
 returns-2 : tie.Need-returns-2
 returns-2 c = first_ends c.before.before.args.s.now c.before.if1.false

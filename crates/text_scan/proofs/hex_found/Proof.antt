@@ -3,27 +3,27 @@ use mathlib.Core.Path.{◌≡◌, ap, ◌∙◌}
 use borrow.Author.Rules.{rules}
 use borrow.Author.Tests.{lt-ltb, le-ltb}
 use Rattle.wire.specs.Numbers.{byte_at}
-use Rattle.text_scan.specs.Scan.{hexValue, hexFound}
+use Rattle.text_scan.specs.Scan.{hex_value, hex_found}
 use Rattle.text_scan.proofs.hex_found.Statement.{statement}
 use Rattle.text_scan.proofs.hex_found.Tie as tie
 
-high : (c : tie.After-hex-value) → c.hex-value.result ≡ hexValue (byte_at c.before.before.before.args.s.now 0)
-high c = c.hex-value.ensures ∙ ap hexValue c.before.byte-at.ensures
+high : (c : tie.After-hex-value) → c.hex-value.result ≡ hex_value (byte_at c.before.before.before.args.s.now 0)
+high c = c.hex-value.ensures ∙ ap hex_value c.before.byte_at_lem.ensures
 
-low : (c : tie.After-hex-value2) → c.hex-value2.result ≡ hexValue (byte_at c.before.before.before.before.before.args.s.now 1)
-low c = c.hex-value2.ensures ∙ ap hexValue c.before.byte-at2.ensures
+low : (c : tie.After-hex-value2) → c.hex-value2.result ≡ hex_value (byte_at c.before.before.before.before.before.args.s.now 1)
+low c = c.hex-value2.ensures ∙ ap hex_value c.before.byte-at2.ensures
 
 returns : tie.Need-returns
-unfolding hexFound
-returns c = rw (hexFound, ← high c.before.before.before, lt-ltb 15 c.before.before.before.hex-value.result c.if1.true)
+unfolding hex_found
+returns c = rw (hex_found, ← high c.before.before.before, lt-ltb 15 c.before.before.before.hex-value.result c.if1.true)
 
 returns-2 : tie.Need-returns-2
-unfolding hexFound
-returns-2 c = rw (hexFound, ← high c.before.before.before.before, ← low c.before.before, le-ltb 15 c.before.before.before.before.hex-value.result c.before.if1.false, lt-ltb 15 c.before.before.hex-value2.result c.if2.true)
+unfolding hex_found
+returns-2 c = rw (hex_found, ← high c.before.before.before.before, ← low c.before.before, le-ltb 15 c.before.before.before.before.hex-value.result c.before.if1.false, lt-ltb 15 c.before.before.hex-value2.result c.if2.true)
 
 returns-3 : tie.Need-returns-3
-unfolding hexFound
-returns-3 c = rw (hexFound, ← high c.before.before.before.before, ← low c.before.before, le-ltb 15 c.before.before.before.before.hex-value.result c.before.if1.false, le-ltb 15 c.before.before.hex-value2.result c.if2.false)
+unfolding hex_found
+returns-3 c = rw (hex_found, ← high c.before.before.before.before, ← low c.before.before, le-ltb 15 c.before.before.before.before.hex-value.result c.before.if1.false, le-ltb 15 c.before.before.hex-value2.result c.if2.false)
 
 pub hex-found-spec : {M : Type 1} → statement M
 hex-found-spec =

@@ -5,13 +5,13 @@ use lib.Dec.{eqb}
 use lib.ListN.{length, drop, get_or}
 use borrow.Author.Rules.{rules}
 use borrow.Author.Tests.{eq-eqb, ne_eqb}
-use Rattle.text_scan.specs.Scan.{separatorPlace}
-use Rattle.text_scan.proofs.ScanLaws.{first_goes, first_stops, first-none}
+use Rattle.text_scan.specs.Scan.{separator_place}
+use Rattle.text_scan.proofs.ScanLaws.{first_goes, first_stops, first_none}
 use Rattle.text_scan.proofs.place_of.Statement.{statement}
 use Rattle.text_scan.proofs.place_of.Tie as tie
 
 abbrev invariant-loop : tie.invariant-loop
-invariant-loop gap sep at₀ at = (at ≤ length gap) × (separatorPlace gap sep ≡ at + separatorPlace (drop at gap) sep)
+invariant-loop gap sep at₀ at = (at ≤ length gap) × (separator_place gap sep ≡ at + separator_place (drop at gap) sep)
 
 abbrev decreases-loop : tie.decreases-loop
 decreases-loop gap sep at₀ at = length gap - at
@@ -34,7 +34,7 @@ returns-2 : tie.Need-returns-2 invariant-loop decreases-loop
 returns-2 c =
     let a = c.before.before.args in
     let l = c.before.loop in
-    sym (l.invariant.1 ∙ first-none (λ (b : ℕ). eqb b a.sep) a.gap.now l.at c.loop-test.false)
+    sym (l.invariant.1 ∙ first_none (λ (b : ℕ). eqb b a.sep) a.gap.now l.at c.loop-test.false)
 
 pub place-of-spec : {M : Type 1} → statement M
 place-of-spec =

@@ -3,17 +3,17 @@ use mathlib.Core.Path.{sym, ◌∙◌}
 use borrow.Author.Rules.{rules}
 use borrow.Author.Tests.{eq-eqb, ne_eqb}
 use Rattle.wire.specs.Numbers.{byte_at}
-use Rattle.text_scan.specs.Scan.{timeFound}
+use Rattle.text_scan.specs.Scan.{time_found}
 use Rattle.text_scan.proofs.time_found.Statement.{statement}
 use Rattle.text_scan.proofs.time_found.Tie as tie
 
 returns : tie.Need-returns
-unfolding timeFound
-returns c = let s = c.before.before.before.before.args.s.now in rw (timeFound, eq-eqb (byte_at s 2) 45 (sym c.before.before.byte-at.ensures ∙ c.before.if1.true)) c.date-found.ensures
+unfolding time_found
+returns c = let s = c.before.before.before.before.args.s.now in rw (time_found, eq-eqb (byte_at s 2) 45 (sym c.before.before.byte_at_lem.ensures ∙ c.before.if1.true)) c.date-found.ensures
 
 returns-2 : tie.Need-returns-2
-unfolding timeFound
-returns-2 c = let s = c.before.before.before.before.args.s.now in rw (timeFound, ne_eqb (byte_at s 2) 45 (λ e. c.before.if1.false (c.before.before.byte-at.ensures ∙ e))) c.number-found.ensures
+unfolding time_found
+returns-2 c = let s = c.before.before.before.before.args.s.now in rw (time_found, ne_eqb (byte_at s 2) 45 (λ e. c.before.if1.false (c.before.before.byte_at_lem.ensures ∙ e))) c.number_found_lem.ensures
 
 pub time-found-spec : {M : Type 1} → statement M
 time-found-spec =

@@ -3,9 +3,9 @@ use Prim.Native.Nat.{◌-◌}
 use mathlib.Core.Path.{◌≡◌, refl, sym, ◌∙◌}
 use lib.ListN.{length, length-map, take, drop}
 use native.Mathlib.Omega.{arith}
-use Rattle.pen.specs.Pen.{spot, pushedAll}
-use Rattle.text_write.specs.Line.{itemsText}
-use Rattle.text_write.proofs.LineLaws.{item_on, count-end, values-end}
+use Rattle.pen.specs.Pen.{spot, pushed_all}
+use Rattle.text_write.specs.Line.{items_text}
+use Rattle.text_write.proofs.LineLaws.{item_on, count_end, values_end}
 use borrow.Author.Rules.{rules}
 use Rattle.text_write.proofs.put_items.Statement.{statement}
 use Rattle.text_write.proofs.put_items.Tie as tie
@@ -13,8 +13,8 @@ use Rattle.text_write.proofs.put_items.Tie as tie
 abbrev invariant-loop : tie.invariant-loop
 invariant-loop out₀ at entry year values to₀ k₀ out to k =
     (length out ≡ length out₀) ×
-    (pushedAll (spot out₀ at) (itemsText entry.kind year 0 (take entry.count entry.values)) ≡
-    pushedAll (spot out to) (itemsText entry.kind year k (drop k (take entry.count entry.values))))
+    (pushed_all (spot out₀ at) (items_text entry.kind year 0 (take entry.count entry.values)) ≡
+    pushed_all (spot out to) (items_text entry.kind year k (drop k (take entry.count entry.values))))
 
 abbrev decreases-loop : tie.decreases-loop
 decreases-loop out₀ at entry year values to₀ k₀ out to k = 261 - k
@@ -29,7 +29,7 @@ returns : tie.Need-returns invariant-loop decreases-loop
 returns c =
     let a = c.before.before.before.before.before.before.args in
     let l = c.before.before.before.loop in
-    sym (l.invariant.1 ∙ count-end (spot l.out l.to) a.entry.kind a.year l.k a.entry.count a.entry.values (omega (arith, c.if1.true)))
+    sym (l.invariant.1 ∙ count_end (spot l.out l.to) a.entry.kind a.year l.k a.entry.count a.entry.values (omega (arith, c.if1.true)))
 
 loop-again : tie.Need-loop-preserved invariant-loop decreases-loop
 loop-again c =
@@ -47,7 +47,7 @@ returns-2 : tie.Need-returns-2 invariant-loop decreases-loop
 returns-2 c =
     let a = c.before.before.before.before.args in
     let l = c.before.loop in
-    sym (l.invariant.1 ∙ values-end (spot l.out l.to) a.entry.kind a.year l.k a.entry.count a.entry.values (omega (arith, simp length-map at c.before.before.before.before.well-formed.1.1.0.1.1.1.1.0.1.0.1)))
+    sym (l.invariant.1 ∙ values_end (spot l.out l.to) a.entry.kind a.year l.k a.entry.count a.entry.values (omega (arith, simp length-map at c.before.before.before.before.well-formed.1.1.0.1.1.1.1.0.1.0.1)))
 
 pub put-items-spec : {M : Type 1} → statement M
 put-items-spec = tie.close

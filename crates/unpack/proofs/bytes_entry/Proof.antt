@@ -5,7 +5,7 @@ use mathlib.Core.List.{List}
 use lib.ListN.{length, set, get_or}
 use native.Mathlib.Omega.{arith}
 use borrow.Author.Rules.{rules}
-use Rattle.unpack.proofs.BytesLaws.{begun, one_more, full-line, part-line}
+use Rattle.unpack.proofs.BytesLaws.{begun, one_more, full_line, part_line}
 use Rattle.unpack.proofs.bytes_entry.Statement.{statement}
 use Rattle.unpack.proofs.bytes_entry.Tie as tie
 
@@ -34,14 +34,14 @@ returns c =
     let s = c.before.before.args.s.now in
     let l = c.before.loop in
     let all : l.k ≡ length s = omega (arith, l.invariant.2, c.loop-test.false) in
-    (λ i. record { kind = 4; count = all i; values = (l.invariant.0 ∙ ap (begun s) all) i }) ∙ part-line s (omega (arith, l.invariant.1))
+    (λ i. record { kind = 4; count = all i; values = (l.invariant.0 ∙ ap (begun s) all) i }) ∙ part_line s (omega (arith, l.invariant.1))
 
 returns-2 : tie.Need-returns-2 invariant-loop decreases-loop
 returns-2 c =
     let s = c.before.before.before.args.s.now in
     let l = c.before.before.loop in
     let full : l.k ≡ 32 = omega (arith, l.invariant.1, c.if1.true) in
-    (λ i. record { kind = 4; count = full i; values = (l.invariant.0 ∙ ap (begun s) full) i }) ∙ full-line s (omega (arith, l.invariant.2))
+    (λ i. record { kind = 4; count = full i; values = (l.invariant.0 ∙ ap (begun s) full) i }) ∙ full_line s (omega (arith, l.invariant.2))
 
 pub bytes-entry-spec : {M : Type 1} → statement M
 bytes-entry-spec =

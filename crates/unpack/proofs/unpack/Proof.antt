@@ -1,12 +1,12 @@
--- At each turn the numbers so far stand at the front and zeros past them (`filled`). No record has more than 261 numbers (`count-few`), so the loop ends with
+-- At each turn the numbers so far stand at the front and zeros past them (`filled`). No record has more than 261 numbers (`count_few`), so the loop ends with
 -- all of them. Assumes nothing.
 use Prim.Native.Nat.{◌-◌, ◌≤◌}
 use mathlib.Core.Path.{◌≡◌, refl, ◌∙◌}
 use lib.ListN.{set}
 use native.Mathlib.Omega.{arith}
 use borrow.Author.Rules.{rules}
-use Rattle.unpack.specs.Unpack.{countIn}
-use Rattle.unpack.proofs.UnpackLaws.{filled, filled_next, count-few, entry-of, blank_of}
+use Rattle.unpack.specs.Unpack.{count_in}
+use Rattle.unpack.proofs.UnpackLaws.{filled, filled_next, count_few, entry_of_lem, blank_of}
 use Rattle.unpack.proofs.unpack.Statement.{statement}
 use Rattle.unpack.proofs.unpack.Tie as tie
 
@@ -22,7 +22,7 @@ returns c = blank_of c.before.before.before.args.s.now c.before.kind-in.result c
 loop-holds : tie.Need-loop-init invariant-loop decreases-loop
 loop-holds c =
     let kind = c.before.before.kind-in in
-    (refl, omega arith, omega (arith, c.count-in.ensures, count-few c.before.before.before.before.args.s.now kind.result kind.ensures))
+    (refl, omega arith, omega (arith, c.count-in.ensures, count_few c.before.before.before.before.args.s.now kind.result kind.ensures))
 
 loop-again : tie.Need-loop-preserved invariant-loop decreases-loop
 loop-again c =
@@ -37,16 +37,16 @@ returns-2 c =
     let l = c.before.loop in
     let kind = c.before.before.before.before.kind-in in
     let s = c.before.before.before.before.before.before.args.s.now in
-    let all : l.k ≡ countIn s kind.result = omega (arith, c.before.before.count-in.ensures) in
-    (λ i. record { kind = kind.result; count = l.k; values = l.invariant.0 i }) ∙ entry-of s kind.result l.k kind.ensures c.before.before.before.if1.false all
+    let all : l.k ≡ count_in s kind.result = omega (arith, c.before.before.count-in.ensures) in
+    (λ i. record { kind = kind.result; count = l.k; values = l.invariant.0 i }) ∙ entry_of_lem s kind.result l.k kind.ensures c.before.before.before.if1.false all
 
 returns-3 : tie.Need-returns-3 invariant-loop decreases-loop
 returns-3 c =
     let l = c.before.before.loop in
     let kind = c.before.before.before.before.before.kind-in in
     let s = c.before.before.before.before.before.before.before.args.s.now in
-    let all : l.k ≡ countIn s kind.result = omega (arith, c.before.before.before.count-in.ensures) in
-    (λ i. record { kind = kind.result; count = l.k; values = l.invariant.0 i }) ∙ entry-of s kind.result l.k kind.ensures c.before.before.before.before.if1.false all
+    let all : l.k ≡ count_in s kind.result = omega (arith, c.before.before.before.count-in.ensures) in
+    (λ i. record { kind = kind.result; count = l.k; values = l.invariant.0 i }) ∙ entry_of_lem s kind.result l.k kind.ensures c.before.before.before.before.if1.false all
 
 pub unpack-spec : {M : Type 1} → statement M
 unpack-spec =

@@ -8,7 +8,7 @@ use Rattle.used_numbers.proofs.is_marked.Tie as tie
 
 returns : tie.Need-returns
 unfolding marked
-returns c = ap (λ byte. bit_of byte (c.before.before.args.number % 8)) c.byte-at.ensures
+returns c = ap (λ byte. bit_of byte (c.before.before.args.number % 8)) c.byte_at_lem.ensures
 
 pub is-marked-spec : {M : Type 1} → statement M
 is-marked-spec = tie.close

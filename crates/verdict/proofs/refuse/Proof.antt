@@ -1,4 +1,4 @@
--- The fields are those of `refusedWith`, with the figures that `none` gives. Assumes nothing.
+-- The fields are those of `refused_with`, with the figures that `none` gives. Assumes nothing.
 use borrow.Author.Rules.{rules}
 use Rattle.verdict.proofs.refuse.Statement.{statement}
 use Rattle.verdict.proofs.refuse.Tie as tie

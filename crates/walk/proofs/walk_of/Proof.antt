@@ -12,10 +12,10 @@ use denote.Array.{each}
 use denote.Plain.{UInt}
 use denote.Shadow.{shadow}
 use Rattle.annex.specs.Inside.{Few, Timely}
-use Rattle.annex.proofs.Bounds.{timely-begun}
-use Rattle.fields.specs.Fields.{stepAt, stepsFrom}
-use Rattle.walk.specs.Walk.{setOut, walkedStep, walked}
-use Rattle.walk.proofs.WalkLaws.{timely-kept, one-taken}
+use Rattle.annex.proofs.Bounds.{timely_begun}
+use Rattle.fields.specs.Fields.{step_at, steps_from}
+use Rattle.walk.specs.Walk.{set_out, walked_step, walked}
+use Rattle.walk.proofs.WalkLaws.{timely_kept, one_taken}
 use Rattle.walk.proofs.walk_of.Statement.{statement}
 use Rattle.walk.proofs.walk_of.Tie as tie
 
@@ -30,7 +30,7 @@ abbrev invariant-loop : tie.invariant-loop
 invariant-loop s steps t0 w₀ at₀ left₀ w at left =
     (at + 16 * left ≡ 14 + 16 * steps) ×
     Timely w.course ×
-    (walked (setOut t0) (stepsFrom s steps 14) ≡ walked w (stepsFrom s left at))
+    (walked (set_out t0) (steps_from s steps 14) ≡ walked w (steps_from s left at))
 
 abbrev decreases-loop : tie.decreases-loop
 decreases-loop s steps t0 w₀ at₀ left₀ w at left = left
@@ -39,8 +39,8 @@ loop-holds : tie.Need-loop-init invariant-loop decreases-loop
 loop-holds c =
     let a = c.before.before.args in (
       refl,
-      rw c.begin.ensures (timely-begun a.t0),
-      ap (λ w. walked w (stepsFrom a.s.now a.steps 14)) (sym c.begin.ensures),
+      rw c.begin.ensures (timely_begun a.t0),
+      ap (λ w. walked w (steps_from a.s.now a.steps 14)) (sym c.begin.ensures),
     )
 
 with-requires : tie.Need-with-requires invariant-loop decreases-loop
@@ -52,15 +52,15 @@ loop-again c =
     let l = c.before.before.before.loop in
     let s = a.s.now in
     let step = c.before.step-at.result in
-    let one : c.with.result ≡ walkedStep l.w step = c.with.ensures in
-    let read : step ≡ stepAt s l.at = c.before.step-at.ensures in
+    let one : c.with.result ≡ walked_step l.w step = c.with.ensures in
+    let read : step ≡ step_at s l.at = c.before.step-at.ensures in
     let more : 0 < l.left = search rules in (
       search rules,
-      rw one (timely-kept l.w step l.invariant.1 (words-few step.counts _ c.before.step-at.type-inv.1.1.1.0.1.1)),
+      rw one (timely_kept l.w step l.invariant.1 (words-few step.counts _ c.before.step-at.type-inv.1.1.1.0.1.1)),
       l.invariant.2
-          ∙ one-taken l.w s l.left l.at more
-          ∙ ap (λ w. walked w (stepsFrom s (l.left - 1) (l.at + 16)))
-          (sym (one ∙ ap (walkedStep l.w) read)),
+          ∙ one_taken l.w s l.left l.at more
+          ∙ ap (λ w. walked w (steps_from s (l.left - 1) (l.at + 16)))
+          (sym (one ∙ ap (walked_step l.w) read)),
     )
 
 returns : tie.Need-returns invariant-loop decreases-loop

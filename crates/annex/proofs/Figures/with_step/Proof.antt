@@ -1,12 +1,12 @@
 -- `annex::Figures::with_step` meets its contract. Each customer and each half is what its callee ensures, one level at a time. Assumes nothing.
 use borrow.Author.Rules.{rules}
 use mathlib.Core.List.{[], ◌∷◌}
-use Rattle.annex.specs.Figures.{withStep}
+use Rattle.annex.specs.Figures.{with_step}
 use Rattle.annex.proofs.Figures.with_step.Statement.{statement}
 use Rattle.annex.proofs.Figures.with_step.Tie as tie
 
 returns : tie.Need-returns
-unfolding withStep
+unfolding with_step
 returns c =
     λ i.
     record {

@@ -3,12 +3,12 @@ use borrow.Author.Rules.{rules}
 use mathlib.Core.List.{[], ◌∷◌}
 use lib.ListN.{get_or}
 use Rattle.annex.specs.Figures.{customers}
-use Rattle.annex.specs.Simple.{simpleFigures}
+use Rattle.annex.specs.Simple.{simple_figures}
 use Rattle.annex.proofs.Simple.figures.Statement.{statement}
 use Rattle.annex.proofs.Simple.figures.Tie as tie
 
 returns : tie.Need-returns
-unfolding simpleFigures
+unfolding simple_figures
 returns c =
     let n = c.before.before.before.before.before.args.self.n1 in
     λ i.

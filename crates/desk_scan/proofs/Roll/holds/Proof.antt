@@ -8,7 +8,7 @@ use Rattle.desk_scan.proofs.Roll.holds.Tie as tie
 returns : tie.Need-returns
 returns c =
     let a = c.before.before.before.args in
-    λ i. eqb a.slots 32 && a.self.sound && c.numbers-differ.ensures i
+    λ i. eqb a.slots 32 && a.self.sound && c.numbers_differ.ensures i
 
 pub holds-spec : {M : Type 1} → statement M
 holds-spec = tie.close

@@ -4,7 +4,7 @@ use mathlib.Core.Path.{refl}
 use lib.ListN.{set}
 use native.Mathlib.Omega.{arith}
 use Rattle.ledger.specs.Ledger.{added}
-use Rattle.ledger.proofs.LedgerLaws.{sound-spare, sound-short, fair-small}
+use Rattle.ledger.proofs.LedgerLaws.{sound_spare, sound_short, fair_small}
 use borrow.Author.Rules.{rules}
 use Rattle.ledger.proofs.Ledger.add.Statement.{statement}
 use Rattle.ledger.proofs.Ledger.add.Tie as tie
@@ -12,7 +12,7 @@ use Rattle.ledger.proofs.Ledger.add.Tie as tie
 grown-requires : tie.Need-grown-requires
 grown-requires c κs =
     let start = c.before.before.before.before in
-    (sound-spare start.args.t1 start.requires.sound start.args.v.row, fair-small _ _ _ start.requires.fair)
+    (sound_spare start.args.t1 start.requires.sound start.args.v.row, fair_small _ _ _ start.requires.fair)
 
 add-self : tie.Need-overflow-add-self
 add-self c = let f = c.before.before.before.before.before.before.requires.fair in omega arith
@@ -21,7 +21,7 @@ add-self-2 : tie.Need-overflow-add-self-2
 add-self-2 c =
     let start = c.before.before.before.before.before.before.before in
     let f = start.requires.fair in
-    omega (arith, sound-short start.args.t1 start.requires.sound)
+    omega (arith, sound_short start.args.t1 start.requires.sound)
 
 returns : tie.Need-returns
 unfolding added

@@ -45,7 +45,7 @@ use denote.Triple.Statement.{Contract, Triple}
 use denote.Triple.Call.{calls_at}
 use denote.Triple.Clauses.{ensured, lasts}
 use denote.Triple.Table.{entered, cited}
-use Rattle.wire.specs.Book.{placeAt, standOf, part_of}
+use Rattle.wire.specs.Book.{place_at, stand_of, part_of}
 use Rattle.reader.specs.declared.Reader.{Reader}
 use Rattle.reader.specs.declared.Answer.{Answer}
 use Rattle.wire.specs.declared.Stand.{Stand}
@@ -55,8 +55,8 @@ use Rattle.reader.specs.contracts.Answer as An
 use Rattle.reader.proofs.Answer.TheLaws as An'
 use Rattle.wire.specs.contracts.Stand as TStand
 use Rattle.wire.proofs.Stand.TheLaws as TStand'
-use Rattle.reader.proofs.Rows.{StandR, stand-tells, stand-typed}
-use Rattle.wire.specs.contracts.stand_at as stand-at
+use Rattle.reader.proofs.Rows.{StandR, stand_tells, stand_typed}
+use Rattle.wire.specs.contracts.stand_at as stand_at
 use Rattle.wire.proofs.stand_at.Symbol as stand-at-def
 use Rattle.wire.proofs.stand_at.Symbol.{name as #wire·stand-at}
 use Rattle.wire.proofs.stand_at.Met as stand-at-thm
@@ -82,13 +82,13 @@ stayed = (stay_none B yes, tt)
 module _ {M : Type 1} {𝓤 : Ura M} (𝓛 : Logic 𝓤) (mem : Memory → SProp 𝓤) (run : Routine → Fun 𝓤) where
   -- the contracts that the proof cites, and of each callee's `ensured` the clause alone
   abbrev StandAt : Contract 𝓤
-  StandAt = triple_of 𝓛 stand-at.signature (stand-at.spec 𝓛 mem run)
+  StandAt = triple_of 𝓛 stand_at.signature (stand_at.spec 𝓛 mem run)
 
   abbrev Part : Contract 𝓤
   Part = triple_of 𝓛 part.signature (part.spec 𝓛 mem run)
 
-  stand-said : (κ : Lft) (x : Bor (List ℕ)) (n : ℕ) (r : Stand) → ent 𝓤 (ensured 𝓛 stand-at.ended (stand-at.clauses 𝓛 mem run) (κ, tt) (x, (n, tt)) tt r) (fact 𝓤 (r ≡ standOf (placeAt x.now n) n))
-  stand-said κ x n r = ex_e 𝓤 _ (λ ws. snd∗ 𝓤 (sem 𝓛 (lasts stand-at.ended (κ, tt) (x, (n, tt)) ws)) (fact 𝓤 (r ≡ standOf (placeAt x.now n) n)))
+  stand-said : (κ : Lft) (x : Bor (List ℕ)) (n : ℕ) (r : Stand) → ent 𝓤 (ensured 𝓛 stand_at.ended (stand_at.clauses 𝓛 mem run) (κ, tt) (x, (n, tt)) tt r) (fact 𝓤 (r ≡ stand_of (place_at x.now n) n))
+  stand-said κ x n r = ex_e 𝓤 _ (λ ws. snd∗ 𝓤 (sem 𝓛 (lasts stand_at.ended (κ, tt) (x, (n, tt)) ws)) (fact 𝓤 (r ≡ stand_of (place_at x.now n) n)))
 
   part-said : (κ : Lft) (x : Bor (List ℕ)) (m n : ℕ) (r : Bor (List ℕ)) → ent 𝓤 (ensured 𝓛 part.ended (part.clauses 𝓛 mem run) (κ, tt) (x, (m, (n, tt))) tt r) (fact 𝓤 (r.now ≡ part_of x.now m n))
   part-said κ x m n r = ex_e 𝓤 _ (λ ws. snd∗ 𝓤 (sem 𝓛 (lasts part.ended (κ, tt) (x, (m, (n, tt))) ws)) (fact 𝓤 (r.now ≡ part_of x.now m n)))
@@ -108,7 +108,7 @@ module _ {M : Type 1} {𝓤 : Ura M} (𝓛 : Logic 𝓤) (mem : Memory → SProp
 
   -- what stands at the reader's place, in numbers
   abbrev st : Stand
-  st = standOf (placeAt d.book.now d.at) d.at
+  st = stand_of (place_at d.book.now d.at) d.at
 
   abbrev past : Reader
   past = record { book = d.book; at = st.end }
@@ -192,12 +192,12 @@ module _ {M : Type 1} {𝓤 : Ura M} (𝓛 : Logic 𝓤) (mem : Memory → SProp
         move ! (2 ∷ []) $ use1 𝓛 (‵ (OwnS d.book) ⊛ ‵ (OwnS d.book)) ((shr_slice_copy 𝓛 (named 0) κ u8).twice d.book (v ∷ [])) $ split ! $
         move ! (2 ∷ 0 ∷ []) $ use2 𝓛 (raw ((StandAt 𝓛 mem run).pre to-stand)) (goes-stand wt.1.1.0.fits) $
         calls_at ! fm (StandAt 𝓛 mem run) known-stand to-stand (and_then ! (load ! (from ! (stop !)) (look ! 11 refl)) (and_then ! (load ! (from ! (stop !)) (look ! 5 refl)) (no_more !))) (λ w₁.
-        use1 𝓛 (later (some (λ (r : Stand). ((‵ (flft κ q) ⊛ ‵ ftrue) ⊛ ‵ (StandR.own_val r (w₁ ∷ []))) ⊛ raw (ensured 𝓛 stand-at.ended (stand-at.clauses 𝓛 mem run) (κ, tt) (d.book, (d.at, tt)) tt r)))) (id⊢ 𝓤 _) $
+        use1 𝓛 (later (some (λ (r : Stand). ((‵ (flft κ q) ⊛ ‵ ftrue) ⊛ ‵ (StandR.own_val r (w₁ ∷ []))) ⊛ raw (ensured 𝓛 stand_at.ended (stand_at.clauses 𝓛 mem run) (κ, tt) (d.book, (d.at, tt)) tt r)))) (id⊢ 𝓤 _) $
         await ! tt $ pick ! (λ r₁.
         split ! $ move ! (1 ∷ []) $ use1 𝓛 (raw (fact 𝓤 (r₁ ≡ st))) (stand-said 𝓛 mem run κ d.book d.at r₁) $ heard ! (r₁ ≡ st) (λ e₁. split ! $
         move ! (1 ∷ []) $ rewrite ! 0 (λ (r : Stand). ‵ (StandR.own_val r (w₁ ∷ []))) e₁ refl $ facts ! StandR (Is StandR) (shows 𝓛 StandR) st (w₁ ∷ []) (λ is₁.
-        land ! (from ! (stop !)) (init ! 9 refl (stand-typed 𝓛 st _ is₁)) $
-        rewrite ! 9 (λ (u : Val). ‵ (fat full_share TStand'.mir l₃ 0 u)) (ap only (stand-tells st _ is₁)) refl $ split ! $ move ! (1 ∷ []) $ drop ! $
+        land ! (from ! (stop !)) (init ! 9 refl (stand_typed 𝓛 st _ is₁)) $
+        rewrite ! 9 (λ (u : Val). ‵ (fat full_share TStand'.mir l₃ 0 u)) (ap only (stand_tells st _ is₁)) refl $ split ! $ move ! (1 ∷ []) $ drop ! $
         let fits = LL.owed TStand.the_type TStand'.the_laws st _ is₁ in
         -- `part`
         move ! (1 ∷ []) $ use1 𝓛 (‵ (OwnS d.book) ⊛ ‵ (OwnS d.book)) ((shr_slice_copy 𝓛 (named 0) κ u8).twice d.book (v ∷ [])) $ split ! $

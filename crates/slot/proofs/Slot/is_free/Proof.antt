@@ -3,7 +3,7 @@ use mathlib.Core.Path.{◌≡◌, sym, ◌∙◌, ap}
 use mathlib.Core.Bool.{Bool, ◌&&◌}
 use lib.Dec.{eqb}
 use Rattle.slot.specs.declared.Slot.{Slot}
-use Rattle.slot.specs.Sound.{noCustomers, noHalves, isFree}
+use Rattle.slot.specs.Sound.{no_customers, no_halves, is_free}
 use borrow.Author.Rules.{rules}
 use borrow.Author.Tests.{not-true, not-false}
 use Rattle.slot.proofs.Slot.is_free.Statement.{statement}
@@ -14,15 +14,15 @@ abbrev unbegun : Slot → Bool
 unbegun s =
     eqb s.head.number 0 && eqb s.head.typ 0 && eqb s.head.voltage 0 && eqb s.head.cause 0 && eqb s.head.t0 0 && eqb s.last 0 && eqb s.steps 0
 
-free-by : (s : Slot) {a b : Bool} → unbegun s ≡ a → noCustomers s.figures ≡ b → isFree s ≡ (a && b && noHalves s.figures)
-unfolding isFree
-free-by s p q = λ i. p i && q i && noHalves s.figures
+free-by : (s : Slot) {a b : Bool} → unbegun s ≡ a → no_customers s.figures ≡ b → is_free s ≡ (a && b && no_halves s.figures)
+unfolding is_free
+free-by s p q = λ i. p i && q i && no_halves s.figures
 
 returns : tie.Need-returns
-unfolding isFree
+unfolding is_free
 returns c =
     let s = c.before.before.before.before.before.before.before.before.before.before.args.self in
-    sym (ap (λ a. a && noCustomers s.figures && noHalves s.figures) (not-true (unbegun s) c.if1.true))
+    sym (ap (λ a. a && no_customers s.figures && no_halves s.figures) (not-true (unbegun s) c.if1.true))
 
 returns-2 : tie.Need-returns-2
 returns-2 c =

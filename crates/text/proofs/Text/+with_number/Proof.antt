@@ -3,8 +3,8 @@ use mathlib.Core.Path.{◌≡◌, ap, ◌∙◌, sym}
 use mathlib.Core.List.{List, [], ◌∷◌}
 use native.Mathlib.Omega.{arith}
 use Rattle.text.specs.declared.Text.{Text}
-use Rattle.text.specs.Text.{pushedAll, numberText}
-use Rattle.text.proofs.TextLaws.{pushed-all-append, number-ends, number-unrolls}
+use Rattle.text.specs.Text.{pushed_all, number_text}
+use Rattle.text.proofs.TextLaws.{pushed_all_append, number_ends, number_unrolls}
 use borrow.Author.Rules.{rules}
 use Prim.Native.Nat.{ℕ, ◌+◌, ◌/◌, ◌%◌, ◌<◌}
 use borrow.Fn.Kinds.{In}
@@ -59,7 +59,7 @@ with-number-returns : (t : ℕ) → with-number-lts.Need-returns (
 ) (with-number-at t) with-number.Post
 with-number-returns t c =
     let a = c.before.before.args in
-    c.with_byte.ensures ∙ ap (pushedAll a.self) (sym (number-ends a.n c.before.if1.true))
+    c.with_byte.ensures ∙ ap (pushed_all a.self) (sym (number_ends a.n c.before.if1.true))
 
 with-number-with-number-requires : (t : ℕ) → with-number-lts.Need-with-number-requires (
   with-byte-reads.Asked,
@@ -103,9 +103,9 @@ with-number-returns-2 t c =
     let a = c.before.before.before.args in
     let last : List ℕ = (48 + a.n % 10) ∷ [] in
     c.with-byte2.ensures ∙
-    ap (λ (s : Text). pushedAll s last) c.before.with-number.ensures ∙
-    sym (pushed-all-append a.self (numberText (a.n / 10)) last) ∙
-    ap (pushedAll a.self) (sym (number-unrolls a.n c.before.before.if1.false (search rules)))
+    ap (λ (s : Text). pushed_all s last) c.before.with-number.ensures ∙
+    sym (pushed_all_append a.self (number_text (a.n / 10)) last) ∙
+    ap (pushed_all a.self) (sym (number_unrolls a.n c.before.before.if1.false (search rules)))
 
 pub +with-number-spec : {M : Type 1} → statement M
 +with-number-spec = close μ-with-number λ t. with-number-lts.spec (
