@@ -1,4 +1,5 @@
 // What one event adds by the annex's formulas: customers and half customer-minutes for each level, the short events, and the year's length.
+#![tactic(auto)]
 ghost use Rattle.std.specs.Prelude.{◌≡◌, ◌+◌, ◌*◌, ◌≤◌, max};
 ghost use Rattle.codes.specs.Ranges.{latest};
 ghost use Rattle.annex.specs.Figures.{nothing, larger_of, longer_of, with_step};
@@ -16,38 +17,38 @@ pub const MOST_HALVES: u64 = 12000000000000;
 
 // Customers interrupted.
 #[repr(C)]
-#[derive(Drop)]
+#[derive(Clone, Copy)]
 pub struct Customers(pub u64);
 
 // Half customer-minutes: twice the minutes, so that the annex's half is kept.
 #[repr(C)]
-#[derive(Drop)]
+#[derive(Clone, Copy)]
 pub struct HalfMinutes(pub u64);
 
 // What the step fold carries and what an event adds, for NN, VN and VVN: the largest counts and the half customer-minutes.
 #[repr(C)]
-#[derive(Drop)]
+#[derive(Clone, Copy)]
 pub struct Figures {
     pub customers: [Customers; LEVELS],
     pub halves: [HalfMinutes; LEVELS],
 }
 
 // One step of a stepped event: its counts hold up to its time.
-#[derive(Drop)]
+#[derive(Clone, Copy)]
 pub struct Step {
     pub time: u32,
     pub counts: [u32; LEVELS],
 }
 
 // A stepped event so far: the last step's time (T0 before the first), and the figures that its steps fold to.
-#[derive(Drop)]
+#[derive(Clone, Copy)]
 pub struct Course {
     pub last: u32,
     pub figures: Figures,
 }
 
 // A simple event: its times, and the customers of each level interrupted at T0 and at T2.
-#[derive(Drop)]
+#[derive(Clone, Copy)]
 pub struct Simple {
     pub t0: u32,
     pub t1: u32,

@@ -1,4 +1,5 @@
 // Taking a whole book: a refused record is counted and passed over, and a broken length counts as one refusal and ends the reading.
+#![tactic(auto)]
 ghost use Rattle.std.specs.Prelude.{◌≡◌, true, length};
 ghost use Rattle.used_numbers.specs.Marks.{map_size};
 ghost use Rattle.ledger.specs.Sound.{sound_ledger};
@@ -8,7 +9,7 @@ use ledger::Ledger;
 
 // What taking the records of a book comes to: the ledger after them, the refused ones, and where and how the reading stopped (1 at the end, 2 at
 // a broken length).
-#[derive(Drop)]
+#[derive(Clone, Copy)]
 pub struct Pass {
     pub ledger: Ledger,
     pub refused: u64,
@@ -18,7 +19,7 @@ pub struct Pass {
 
 // What reading a book comes to: 1 where nothing was read (an unsound ledger, or a map of another size), else 0; the ledger at the end; the
 // refused records; and whether a broken length ended the reading.
-#[derive(Drop)]
+#[derive(Clone, Copy)]
 pub struct Read {
     pub answer: u8,
     pub ledger: Ledger,

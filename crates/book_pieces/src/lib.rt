@@ -1,5 +1,6 @@
 // Taking a book in pieces as they arrive: the whole records of what has arrived are taken, and the bytes of a record that is not whole yet are kept at
 // the front of a lent buffer.
+#![tactic(auto)]
 ghost use Rattle.std.specs.Prelude.{◌≡◌};
 ghost use Rattle.book_pieces.specs.Feed.{begun_of, fed_of, map_fed, buffer_fed, finished_of};
 
@@ -8,7 +9,7 @@ use ledger::Ledger;
 
 // So far: the ledger, the refused records, how many bytes at the front of the buffer are still to be read, and whether they begin with a length below 4,
 // after which no record can follow.
-#[derive(Drop)]
+#[derive(Clone, Copy)]
 pub struct Feed {
     pub ledger: Ledger,
     pub refused: u64,
@@ -17,7 +18,7 @@ pub struct Feed {
 }
 
 // An answer number, and the next feed.
-#[derive(Drop)]
+#[derive(Clone, Copy)]
 pub struct Fed {
     pub answer: u8,
     pub feed: Feed,

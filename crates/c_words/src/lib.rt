@@ -1,5 +1,6 @@
 // A ledger lent by C as words of 64 bits under the header's word (include/temelyak.h): the ledger that the words hold, handed on to the call behind, and what
 // that call answers written back where the answer is 0.
+#![tactic(auto)]
 ghost use Rattle.std.specs.Prelude.{◌≡◌, ◌∷◌, [], ◌++◌, ◌+◌, ◌<◌, length, take, drop};
 ghost use Rattle.c_words.specs.Words.{words_first, ledger_words, words_fit, Fit, ledger_in, cells_of, cell_words, rows_of, cells_in, flag_of};
 ghost use Rattle.c_words.specs.Header.{headed, if_accepted};
@@ -26,7 +27,7 @@ const HEADER: u64 = VERSION * 4294967296 + WORDS as u64 * 65536 + 72;
 pub const OTHER_SIZE: u8 = 251;
 
 // An answer number, and two numbers that are written where it is 0.
-#[derive(Drop)]
+#[derive(Clone, Copy)]
 pub struct Pair {
     pub answer: u8,
     pub first: u64,

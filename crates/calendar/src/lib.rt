@@ -1,9 +1,10 @@
 // Minutes from 1 January 00:00 of a year as a month, a day, an hour and a minute, and back.
+#![tactic(auto)]
 ghost use Rattle.std.specs.Prelude.{◌≡◌};
 ghost use Rattle.calendar.specs.Calendar.{days_in, date_of, minute_of};
 
 // A day of a year by its month and its number in it, both from 1, and a time of that day.
-#[derive(Drop)]
+#[derive(Clone, Copy)]
 pub struct Date {
     pub month: u32,
     pub day: u32,
@@ -12,7 +13,7 @@ pub struct Date {
 }
 
 // Whether a year has a date, and its minute; 0 where it has not.
-#[derive(Drop)]
+#[derive(Clone, Copy)]
 pub struct Minute {
     pub there: bool,
     pub value: u32,

@@ -1,4 +1,6 @@
 // The code lists of section 9 of the annex: event types and their rows in the ledger, voltages and their levels, causes, and the sets of types.
+#![tactic(auto)]
+
 ghost use Rattle.std.specs.Prelude.{◌≡◌};
 ghost use Rattle.base.specs.Lists.{listed};
 ghost use Rattle.codes.specs.Codes.{row_of, level_in, level_of, cause_listed, row_held};
@@ -29,7 +31,7 @@ const VN: u8 = 1;
 const VVN: u8 = 2;
 
 // A row of the voltage table: a code and its level.
-#[derive(Drop)]
+#[derive(Clone, Copy)]
 struct Voltage(u8, u8);
 
 // Section 9.4 in its order, with its voltages beside the codes.
@@ -49,7 +51,7 @@ const CAUSES: [u8; 22] = [
 ];
 
 // A set of event types: all, the compliance figures, or none named, which means the compliance figures.
-#[derive(Drop)]
+#[derive(Clone, Copy)]
 pub enum Set {
     All,
     Std,

@@ -1,32 +1,33 @@
 // Decimals of exact fractions, to nearest, a tie upward, by long division: no figure that a sound ledger holds is too large for it.
+#![tactic(auto)]
 ghost use Rattle.std.specs.Prelude.{◌≡◌, ◌+◌, ◌*◌, ◌<◌, ◌≤◌, ◌^◌};
 ghost use Rattle.decimal.specs.Decimal.{decimally, shown_numbers, split_at, Tenfold, Divided};
 
 use ratio::Fraction;
 
 // The whole part, and the digits after the point as one number.
-#[derive(Drop)]
+#[derive(Clone, Copy)]
 pub struct Decimal {
     pub whole: u64,
     pub digits: u64,
 }
 
 // A decimal, or the number of a refusal.
-#[derive(Drop)]
+#[derive(Clone, Copy)]
 pub enum Shown {
     Is(Decimal),
     Refused(u8),
 }
 
 // One digit of a long division: ten times the rest before, split into digit and rest.
-#[derive(Drop)]
+#[derive(Clone, Copy)]
 struct Digit {
     digit: u64,
     rest: u64,
 }
 
 // The digits of a long division so far: ten to their number, the digits as one number, and the rest.
-#[derive(Drop)]
+#[derive(Clone, Copy)]
 struct Division {
     power: u64,
     digits: u64,

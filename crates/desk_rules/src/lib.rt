@@ -1,5 +1,6 @@
 // What a desk message does: from what was found of the desk, the ledger, the map and the message's bytes to a plan. All rules of the desk stand
 // here, on values; carrying a plan out is the desk's own part.
+#![tactic(auto)]
 ghost use Rattle.std.specs.Prelude.{◌≡◌, true, cond};
 ghost use Rattle.ledger.specs.Sound.{sound_ledger};
 ghost use Rattle.slot.specs.Sound.{slot_sound};
@@ -11,14 +12,14 @@ use ledger::Ledger;
 use slot::Slot;
 
 // What the desk answers: the answer number, and the ledger handed back.
-#[derive(Drop)]
+#[derive(Clone, Copy)]
 pub struct Served {
     pub answer: u8,
     pub ledger: Ledger,
 }
 
 // What is to be done: the answer and the ledger handed back; the slot to put, and where (past the desk's end: nowhere); the number to mark, or 0.
-#[derive(Drop)]
+#[derive(Clone, Copy)]
 pub struct Plan {
     pub served: Served,
     pub at: usize,

@@ -1,4 +1,5 @@
 // The roll of a desk: what one pass over its slots gathers, and the searches in it.
+#![tactic(auto)]
 ghost use Rattle.std.specs.Prelude.{◌≡◌, ◌+◌, drop, set};
 ghost use Rattle.base.specs.Lists.{listed, place};
 ghost use Rattle.desk_scan.specs.Desk.{differ};
@@ -10,7 +11,7 @@ use slot::Slot;
 pub const SLOTS: usize = 32;
 
 // Whether each slot is sound, and the numbers that the slots hold, 0 for a free one.
-#[derive(Drop)]
+#[derive(Clone, Copy)]
 pub struct Roll {
     pub sound: bool,
     pub numbers: [u16; 32],

@@ -1,5 +1,6 @@
 // A yearly file taken into an element table: a refused record is counted and passed over, and a broken length counts as one refusal and ends the
 // reading of that file.
+#![tactic(auto)]
 ghost use Rattle.std.specs.Prelude.{◌≡◌};
 ghost use Rattle.element_file.specs.Yearly.{pass_of, file_of};
 
@@ -7,7 +8,7 @@ use element_table::Table;
 
 // What taking the records of some bytes comes to: the table after them, the refused ones, and where and how the reading stopped (1 at the end, 2 at
 // a broken length).
-#[derive(Drop)]
+#[derive(Clone, Copy)]
 pub struct Pass {
     pub table: Table,
     pub refused: u64,
@@ -17,7 +18,7 @@ pub struct Pass {
 
 // What reading a file comes to: 1 where nothing was read (an unsound table), else 0; the table at the end; the refused records; and whether a broken
 // length ended the reading.
-#[derive(Drop)]
+#[derive(Clone, Copy)]
 pub struct Reading {
     pub answer: u8,
     pub table: Table,

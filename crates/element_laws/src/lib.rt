@@ -1,1 +1,2 @@
 // Theorems on element tables: what accepted files come to, in any order, and joined. It has no code.
+#![tactic(auto)]

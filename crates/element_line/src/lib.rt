@@ -1,5 +1,6 @@
 // A line of the element sheet: code, name, outages, what the rate is per, the rate and the mean outage, each as an exact fraction and with six digits, parted
 // by tabs; and the heading over the lines.
+#![tactic(auto)]
 ghost use Rattle.std.specs.Prelude.{◌≡◌};
 ghost use Rattle.text.specs.Text.{text_of, pushed_all};
 ghost use Rattle.element_line.specs.Listing.{fraction_text, six_text, figure_text, per_text, line_text, line_of, heading_text};
@@ -10,7 +11,7 @@ use element_table::Table;
 use text::Text;
 
 // The answer number, and the text: none where the answer is not 0.
-#[derive(Drop)]
+#[derive(Clone, Copy)]
 pub struct Line {
     pub answer: u8,
     pub text: Text,

@@ -1,5 +1,6 @@
 // Taking a yearly file in pieces as they arrive: the whole records of what has arrived are taken, and the bytes of a record
 // that is not whole yet are kept at the front of a lent buffer.
+#![tactic(auto)]
 ghost use Rattle.std.specs.Prelude.{◌≡◌};
 ghost use Rattle.element_pieces.specs.Inflow.{begun_of, flowed_of, buffer_after, finished_of};
 
@@ -8,7 +9,7 @@ use element_table::Table;
 
 // So far: the table, the refused records of this file, how many bytes at the front of the buffer are still to be read, and whether they begin with a
 // length below 4, after which no record can follow.
-#[derive(Drop)]
+#[derive(Clone, Copy)]
 pub struct Inflow {
     pub table: Table,
     pub refused: u64,
@@ -17,7 +18,7 @@ pub struct Inflow {
 }
 
 // An answer number, and the next inflow.
-#[derive(Drop)]
+#[derive(Clone, Copy)]
 pub struct Flowed {
     pub answer: u8,
     pub flow: Inflow,

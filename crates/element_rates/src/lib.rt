@@ -1,4 +1,5 @@
 // The figures of section 5 of the annex for each element: how often it is out, and how long on average, as exact fractions in lowest terms.
+#![tactic(auto)]
 ghost use Rattle.std.specs.Prelude.{◌≡◌, ◌≤◌};
 ghost use Rattle.element_rates.specs.Rates.{weight_of, rate_of, mean_of, shown_figure, shown_rate, shown_mean};
 
@@ -7,7 +8,7 @@ use element_table::Table;
 use ratio::Fraction;
 
 // An exact fraction, or the number of a refusal.
-#[derive(Drop)]
+#[derive(Clone, Copy)]
 pub enum Figure {
     Is(Fraction),
     Refused(u8),

@@ -1,4 +1,5 @@
 // What is known of one element of 9.8 over an observation period: a row of the element table.
+#![tactic(auto)]
 ghost use Rattle.std.specs.Prelude.{◌≡◌, ◌*◌, ◌≤◌};
 ghost use Rattle.element_row.specs.Row.{most_outages, longest, no_row, row_within, with_outage, with_stock};
 
@@ -8,7 +9,7 @@ pub const MOST_OUTAGES: u32 = 65535;
 pub const LONGEST: u64 = 600000;
 
 // What is known of one element: its outages with their minutes, and its stock: 0 none told, 1 pieces, 2 line in tenths of a kilometre.
-#[derive(Drop)]
+#[derive(Clone, Copy)]
 pub struct Row {
     pub outages: u32,
     pub minutes: u64,

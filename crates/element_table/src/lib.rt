@@ -1,4 +1,5 @@
 // The element table: outages, minutes and stock of each element of 9.8 over an observation period, taken from yearly files record by record.
+#![tactic(auto)]
 ghost use Rattle.std.specs.Prelude.{◌≡◌, ◌≤◌};
 ghost use Rattle.base.specs.Lists.{every};
 ghost use Rattle.wire.specs.Frame.{kind_of};
@@ -10,7 +11,7 @@ ghost use Rattle.element_table.specs.Take.{with_row, accepted_at, taken_of};
 use element_row::Row;
 
 // The observation period in years, whether the file's year sheet was seen, and a row for each element in the order of 9.8.
-#[derive(Drop)]
+#[derive(Clone, Copy)]
 pub struct Table {
     pub period: u32,
     pub seen: bool,
@@ -18,7 +19,7 @@ pub struct Table {
 }
 
 // An answer number, and the next table.
-#[derive(Drop)]
+#[derive(Clone, Copy)]
 pub struct Filed {
     pub answer: u8,
     pub table: Table,

@@ -1,4 +1,5 @@
 // The fields of a book's records, read off their bytes, and what 01 asks of a sheet's numbers and of a head's codes.
+#![tactic(auto)]
 ghost use Rattle.std.specs.Prelude.{◌≡◌, ◌+◌, ◌*◌, ◌≤◌, length};
 ghost use Rattle.fields.specs.Fields.{sheet_in, head_in, simple_in, step_at};
 ghost use Rattle.fields.specs.Tests.{in_range, head_listed};
@@ -7,7 +8,7 @@ use annex::{Simple, Step};
 use codes::LEVELS;
 
 // The year sheet, or none: then all is zero.
-#[derive(Drop)]
+#[derive(Clone, Copy)]
 pub struct Sheet {
     pub there: bool,
     pub year: u16,
@@ -16,7 +17,7 @@ pub struct Sheet {
 
 // What a simple event, a stepped event and an opened outage begin with.
 #[repr(C)]
-#[derive(Drop)]
+#[derive(Clone, Copy)]
 pub struct Head {
     pub number: u16,
     pub typ: u8,

@@ -1,4 +1,5 @@
 // SAIFI, SAIDI and CAIDI of a level or the network and a set of event types, as exact fractions in lowest terms and as decimals.
+#![tactic(auto)]
 ghost use Rattle.std.specs.Prelude.{◌≡◌, ◌≤◌, ◌<◌};
 ghost use Rattle.decimal.specs.Decimal.{decimally};
 ghost use Rattle.codes.specs.Codes.{levels};
@@ -13,7 +14,7 @@ use ledger::{Cell, Ledger, TypeRow};
 use ratio::Fraction;
 
 // A voltage level, or the whole network.
-#[derive(Drop)]
+#[derive(Clone, Copy)]
 pub enum Level {
     NN,
     VN,
@@ -21,7 +22,7 @@ pub enum Level {
     Network,
 }
 
-#[derive(Drop)]
+#[derive(Clone, Copy)]
 pub enum Index {
     Saifi,
     Saidi,
@@ -29,7 +30,7 @@ pub enum Index {
 }
 
 // An exact fraction, or the number of a refusal.
-#[derive(Drop)]
+#[derive(Clone, Copy)]
 pub enum Answer {
     Is(Fraction),
     Refused(u8),

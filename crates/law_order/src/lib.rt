@@ -1,1 +1,2 @@
 // Books in another order, from the definitions that the contracts cite. There is no code here.
+#![tactic(auto)]

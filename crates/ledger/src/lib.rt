@@ -1,5 +1,6 @@
 // The ledger: the year sheet or none, the events and short events taken, and the cells by type and level. Every operation takes a ledger and
 // hands back the next one.
+#![tactic(auto)]
 ghost use Rattle.std.specs.Prelude.{◌≡◌, ◌&&◌, ◌≤◌, ◌*◌};
 ghost use Rattle.base.specs.Lists.{every};
 ghost use Rattle.annex.specs.Figure.{Off, Halves, most_of};
@@ -17,20 +18,20 @@ use verdict::Verdict;
 pub const MAP: usize = 8192;
 
 // The figures of one event type on one level.
-#[derive(Drop)]
+#[derive(Clone, Copy)]
 pub struct Cell {
     pub customers: Customers,
     pub halves: HalfMinutes,
 }
 
 // The figures of one event type: NN, VN, VVN.
-#[derive(Drop)]
+#[derive(Clone, Copy)]
 pub struct TypeRow {
     pub levels: [Cell; LEVELS],
 }
 
 // The rows stand in the order of the types' list.
-#[derive(Drop)]
+#[derive(Clone, Copy)]
 pub struct Ledger {
     pub sheet: Sheet,
     pub events: u16,
@@ -39,7 +40,7 @@ pub struct Ledger {
 }
 
 // An answer number, and the next ledger.
-#[derive(Drop)]
+#[derive(Clone, Copy)]
 pub struct Taken {
     pub answer: u8,
     pub ledger: Ledger,

@@ -1,8 +1,10 @@
 // Exact fractions in lowest terms.
+#![tactic(auto)]
+
 ghost use Rattle.std.specs.Prelude.{◌≡◌};
 ghost use Rattle.ratio.specs.Lowest.{gcd_of, lowest_of};
 
-#[derive(Drop)]
+#[derive(Clone, Copy)]
 pub struct Fraction {
     pub top: u64,
     pub bottom: u64,

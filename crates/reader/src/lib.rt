@@ -1,9 +1,11 @@
 // The book reader: it remembers the book it was given and where the next record starts. All rules stand in wire.
+#![tactic(auto)]
+
 ghost use Rattle.std.specs.Prelude.{◌≡◌};
 ghost use Rattle.wire.specs.Book.{which_at, record_at, after_at};
 
 // A book, and the offset where its next record starts; the offset may lie past the book's end.
-#[derive(Drop)]
+#[derive(Clone, Copy)]
 pub struct Reader<'a> {
     pub book: &'a [u8],
     pub at: usize,
@@ -11,7 +13,7 @@ pub struct Reader<'a> {
 
 // What a reader answers: 0 a record, 1 the end, 2 a broken length; the record's bytes (none where there is no record); and the reader, moved past
 // the record, or the same.
-#[derive(Drop)]
+#[derive(Clone, Copy)]
 pub struct Answer<'a> {
     pub which: u8,
     pub bytes: &'a [u8],

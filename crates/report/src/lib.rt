@@ -1,4 +1,5 @@
 // The year report's text.
+#![tactic(auto)]
 ghost use Rattle.std.specs.Prelude.{◌≡◌};
 ghost use Rattle.text.specs.Text.{pushed_all};
 ghost use Rattle.report.specs.Report.{figure_text, level_word, set_word, line_text, head_text, lines_text, report_of};
@@ -10,7 +11,7 @@ use ledger::Ledger;
 use text::Text;
 
 // The answer number, and the text: 1 and no text for an unsound ledger.
-#[derive(Drop)]
+#[derive(Clone, Copy)]
 pub struct Report {
     pub answer: u8,
     pub text: Text,

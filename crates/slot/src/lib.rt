@@ -1,4 +1,5 @@
 // One slot of the desk: an open outage with what its steps have come to, or a free slot, which holds zeros only.
+#![tactic(auto)]
 ghost use Rattle.std.specs.Prelude.{◌≡◌, true, ◌-◌, ◌≤◌};
 ghost use Rattle.annex.specs.Inside.{Ready};
 ghost use Rattle.slot.specs.Slot.{free_slot, opened_by, course_in, stepped_by};
@@ -9,7 +10,7 @@ use fields::Head;
 
 // What the outage began with, the last step's time (T0 before the first), the steps taken, and the figures that they fold to.
 #[repr(C)]
-#[derive(Drop)]
+#[derive(Clone, Copy)]
 pub struct Slot {
     pub head: Head,
     pub last: u32,

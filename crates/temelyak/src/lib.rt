@@ -1,5 +1,6 @@
 // The library for C (include/temelyak.h): a ledger is lent as words of 64 bits, and every call answers a number. Each exported function reads the ledger,
 // hands it to the call behind it, and writes it back where the answer is 0.
+#![tactic(auto)]
 ghost use Rattle.std.specs.Prelude.{◌≡◌};
 ghost use Rattle.temelyak.specs.Calls.{empty_answer, empty_words, take_answer, take_words, take_map, book_answer, book_words, book_map, book_out, serve_answer, serve_words, serve_map, serve_desk, index_answer, index_out, decimal_answer, decimal_out, built_of};
 ghost use Rattle.temelyak.specs.Inside.{handed_back};

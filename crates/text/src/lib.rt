@@ -1,9 +1,10 @@
 // Text put together byte by byte in an array by value.
+#![tactic(auto)]
 ghost use Rattle.std.specs.Prelude.{◌≡◌, []};
 ghost use Rattle.text.specs.Text.{text_of, pushed, pushed_all, number_text, two_text};
 
 // The text, and how long it is; the bytes past it are 0.
-#[derive(Drop)]
+#[derive(Clone, Copy)]
 pub struct Text {
     pub bytes: [u8; 1024],
     pub len: usize,

@@ -1,4 +1,5 @@
 // The lines of a book's text: which items stand in a line of each sort, one after the other.
+#![tactic(auto)]
 ghost use Rattle.std.specs.Prelude.{◌≡◌};
 ghost use Rattle.text_items.specs.Shape.{item_of, most_of, whole_of, bar_before};
 
@@ -25,7 +26,7 @@ pub const TIME: u8 = 4;
 pub const DIGITS: u8 = 5;
 
 // What a line says: its sort, and the numbers of its items, as many as a stepped event of 64 steps has; those past them are 0.
-#[derive(Drop)]
+#[derive(Clone, Copy)]
 pub struct Entry {
     pub kind: u8,
     pub count: usize,

@@ -1,4 +1,5 @@
 // A line of text read as an entry: its word, then its items, each parted from the next.
+#![tactic(auto)]
 ghost use Rattle.std.specs.Prelude.{◌≡◌};
 ghost use Rattle.text_parse.specs.Entry.{begins_with, word_of, next_field, item_due, gap_before, next_cell, refused_at, gathered, parsed_of, items_read, item_refused};
 
@@ -6,7 +7,7 @@ use text_items::Entry;
 use text_scan::Found;
 
 // The sort of line that a word names, and how long the word is; no sort and 0 where it is none.
-#[derive(Drop)]
+#[derive(Clone, Copy)]
 pub struct Word {
     pub kind: u8,
     pub used: usize,
@@ -14,7 +15,7 @@ pub struct Word {
 
 // 0 and an entry, which is blank where the line has nothing but gaps and a comment; or what was expected, and at which byte of the line, from 0. Then the
 // entry is blank.
-#[derive(Drop)]
+#[derive(Clone, Copy)]
 pub struct Parsed {
     pub answer: u8,
     pub at: usize,

@@ -1,4 +1,5 @@
 // The items of a line of text: gaps between them, numbers, times and hexadecimal digits. Each function reads the front of what is left of the line.
+#![tactic(auto)]
 ghost use Rattle.std.specs.Prelude.{◌≡◌, ◌-◌};
 ghost use Rattle.text_scan.specs.Scan.{is_gap, gaps_in, ends_here, parted_here, said_at, separates, separator_of, is_other, other_at, separator_place, gap_said, digits_of, number_found, date_found, time_found, hex_found, item_found};
 
@@ -39,7 +40,7 @@ pub const END: u8 = 255;
 
 // An answer, the number of the item, and how many bytes it has; where the answer is not 0 the number is 0, and the bytes are those before the place that it
 // speaks of.
-#[derive(Drop)]
+#[derive(Clone, Copy)]
 pub struct Found {
     pub answer: u8,
     pub value: u32,
@@ -47,7 +48,7 @@ pub struct Found {
 }
 
 // Decimal digits: the number that they write, as far as it is told from larger ones, and how many there are.
-#[derive(Drop)]
+#[derive(Clone, Copy)]
 pub struct Digits {
     pub value: u64,
     pub used: usize,

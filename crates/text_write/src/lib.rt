@@ -1,4 +1,5 @@
 // An entry written as a line of text, without its newline.
+#![tactic(auto)]
 ghost use Rattle.std.specs.Prelude.{◌≡◌};
 ghost use Rattle.pen.specs.Pen.{spot, pushed_all};
 ghost use Rattle.text_parse.specs.Entry.{word_text};

@@ -1,4 +1,5 @@
 // What judging a record comes to: a verdict, of a refused record and of an accepted event.
+#![tactic(auto)]
 ghost use Rattle.std.specs.Prelude.{◌≡◌};
 ghost use Rattle.verdict.specs.Verdict.{refused_with, event_verdict};
 
@@ -7,7 +8,7 @@ use fields::{Head, Sheet};
 
 // What judging a record comes to: the answer number, and what the record does to a ledger: the sheet after it, the number that it marks (0 for
 // none), the events and short events that it adds, and its figures with their row. A refused record adds nothing.
-#[derive(Drop)]
+#[derive(Clone, Copy)]
 pub struct Verdict {
     pub answer: u8,
     pub sheet: Sheet,

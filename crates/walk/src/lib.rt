@@ -1,4 +1,5 @@
 // The walk over an event's steps: the test of all their times, and the figures that they fold to.
+#![tactic(auto)]
 ghost use Rattle.std.specs.Prelude.{◌≡◌, ◌+◌, ◌*◌, ◌≤◌, length};
 ghost use Rattle.annex.specs.Inside.{Timely};
 ghost use Rattle.fields.specs.Fields.{steps_from};
@@ -7,7 +8,7 @@ ghost use Rattle.walk.specs.Walk.{set_out, walked_step, walked};
 use annex::{Course, Step};
 
 // The steps of an event so far: whether a time broke a rule, and the event's course, while none did.
-#[derive(Drop)]
+#[derive(Clone, Copy)]
 pub struct Walk {
     pub late: bool,
     pub course: Course,

@@ -1,11 +1,13 @@
 // What bytes say: little-endian numbers in a slice, a record's frame, and what stands at an offset of a book.
+#![tactic(auto)]
+
 ghost use Rattle.std.specs.Prelude.{◌≡◌, ◌+◌, ◌*◌, ◌<◌, ◌≤◌, length};
 ghost use Rattle.wire.specs.Numbers.{byte_at, le16, le32, counts_at};
 ghost use Rattle.wire.specs.Frame.{framed, kind_of};
 ghost use Rattle.wire.specs.Book.{place_at, stand_of, part_of};
 
 // What stands at an offset of a book: a record's place, the end, or a broken length.
-#[derive(Drop)]
+#[derive(Clone, Copy)]
 pub enum Place {
     Record { start: usize, end: usize },
     End,
@@ -13,7 +15,7 @@ pub enum Place {
 }
 
 // The same in numbers: 0 a record, 1 the end, 2 broken, and the record's place. Where no record stands, both places are the offset.
-#[derive(Drop)]
+#[derive(Clone, Copy)]
 pub struct Stand {
     pub which: u8,
     pub start: usize,
