@@ -43,7 +43,7 @@ module _ (f : Figures) (counts : List ℕ) (minutes : ℕ) where
 -- the last time of a course is that of its last step
 pub course_last : (c : Course) (ss : List Step) → (coursed_all c ss).last ≡ last_time c.last ss
 course_last c [] = refl
-course_last c (s ∷ ss) = course_last _ ss
+course_last c (s ∷ ss) = course_last (coursed c s) ss
 
 -- a course goes on where it left off
 pub course_snoc : (c : Course) (ss : List Step) (s : Step) → coursed_all c (ss ++ s ∷ []) ≡ coursed (coursed_all c ss) s
@@ -54,12 +54,12 @@ module _ (h : ℕ) (l : h < levels) where
   -- any steps more: the largest of the customers before and their counts; and twice the sum of count times duration more
   pub course_customers : (c : Course) (ss : List Step) → customers_at (coursed_all c ss).figures h ≡ max (customers_at c.figures h) (largest (counts_of h ss))
   course_customers c [] = omega arith
-  course_customers c (s ∷ ss) = rw (course_customers _ ss, step_customers) (omega arith)
+  course_customers c (s ∷ ss) = rw (course_customers (coursed c s) ss, step_customers) (omega arith)
 
   pub course_halves : (c : Course) (ss : List Step) → halves_at (coursed_all c ss).figures h ≡ halves_at c.figures h + 2 * weighed h c.last ss
   course_halves c [] = omega arith
   course_halves c (s ∷ ss) =
-      rw (course_halves _ ss, step_halves) (omega (arith, mul_assoc 2 (get_or s.counts h 0) (s.time - c.last)))
+      rw (course_halves (coursed c s) ss, step_halves) (omega (arith, mul_assoc 2 (get_or s.counts h 0) (s.time - c.last)))
 
   -- from nothing
   pub stepped_customers : (t0 : ℕ) (ss : List Step) → customers_at (stepped_figures t0 ss) h ≡ largest (counts_of h ss)

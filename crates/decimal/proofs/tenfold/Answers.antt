@@ -2,11 +2,11 @@
 use borrow.Author.Rules.{rules}
 use Prim.Native.Nat.{ℕ, ◌+◌, ◌*◌, ◌-◌, ◌<◌}
 use mathlib.Core.Path.{◌≡◌, ◌∙◌, ap}
-use mathlib.Core.Logic.{⊎_elim}
 use native.Mathlib.Omega.{arith}
 use native.Mathlib.Nat.{lt_of_mul-lt-mul_right}
 use Rattle.decimal.proofs.DivisionLaws.{one_more_time}
 use Rattle.decimal.proofs.tenfold.Goals as goal
+use Rattle.decimal.proofs.tenfold.Goals.{then-d-rest, else-d-rest}
 
 pub loop-k-init : goal.loop-k-init
 loop-k-init c = (search rules, search rules, search rules, omega arith)
@@ -17,12 +17,14 @@ loop-k-preserved c =
     let l = c.loop-k in
     let turn : (l.k + 1) * a.rest ≡ l.k * a.rest + a.rest = one_more_time l.k a.rest in
     let carry : (l.digit + 1) * a.d ≡ l.digit * a.d + a.d = one_more_time l.digit a.d in
-    ⊎_elim
-    (λ w. (let e : c.if-d-rest.digit * a.d ≡ l.digit * a.d + a.d = ap (λ (x : ℕ). x * a.d) w.1 ∙ carry in
-    (omega arith, omega arith, omega arith, omega arith)))
-    (λ w. (let e : c.if-d-rest.digit * a.d ≡ l.digit * a.d = ap (λ (x : ℕ). x * a.d) w.1 in
-    (omega arith, omega arith, omega arith, omega arith)))
-    c.if-d-rest.branch
+    elim c.if-d-rest.branch [
+      then-d-rest w ↦
+        let e : c.if-d-rest.digit * a.d ≡ l.digit * a.d + a.d = ap (λ (x : ℕ). x * a.d) w.digit-is ∙ carry in
+        (omega arith, omega arith, omega arith, omega arith)
+    | else-d-rest w ↦
+        let e : c.if-d-rest.digit * a.d ≡ l.digit * a.d = ap (λ (x : ℕ). x * a.d) w.digit-is in
+        (omega arith, omega arith, omega arith, omega arith)
+    ]
 
 pub returns : goal.returns
 returns c =
