@@ -1,5 +1,6 @@
 // The walk over an event's steps: the test of all their times, and the figures that they fold to.
 #![tactic(auto)]
+
 ghost use Rattle.std.specs.Prelude.{◌≡◌, ◌+◌, ◌*◌, ◌≤◌, length};
 ghost use Rattle.annex.specs.Inside.{Timely};
 ghost use Rattle.fields.specs.Fields.{steps_from};
