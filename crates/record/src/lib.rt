@@ -1,5 +1,6 @@
 // Judging one record: from its bytes, the sheet, the map and the number of events to a verdict.
 #![tactic(auto)]
+
 ghost use Rattle.std.specs.Prelude.{◌≡◌, cond, []};
 ghost use Rattle.base.specs.First.{first};
 ghost use Rattle.record.specs.Inside.{first_of, simple_tests, stepped_tests, verdict_at};
