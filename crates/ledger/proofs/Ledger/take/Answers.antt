@@ -1,0 +1,52 @@
+-- An unsound ledger or a map of another size is 1. Else the record is judged, and its verdict is marked and added: a refused one marks and adds
+-- nothing. Assumes nothing.
+use mathlib.Core.Path.{◌≡◌, refl, sym, ap, ◌∙◌, subst⁻¹}
+use mathlib.Core.Bool.{false, ◌||◌, not}
+use lib.ListN.{length}
+use lib.Dec.{eqb}
+use borrow.Author.Tests.{eqb-false, not-false}
+use Rattle.base.proofs.TestLaws.{or_right}
+use Rattle.used_numbers.specs.Marks.{marked_with, map_size}
+use Rattle.verdict.specs.declared.Verdict.{Verdict}
+use Rattle.record.proofs.JudgeLaws.{verdict_answer}
+use Rattle.ledger.specs.Ledger.{added}
+use Rattle.ledger.specs.Inside.{Fits}
+use Rattle.ledger.specs.Take.{unsound}
+use Rattle.ledger.proofs.TakeLaws.{answer_1, answer_judged, take_judged, refused_hands_back}
+use Rattle.ledger.proofs.SoundLaws.{verdict_fits}
+use Rattle.ledger.proofs.Ledger.take.Goals as goal
+
+pub returns-then-map-sound : goal.returns-then-map-sound
+returns-then-map-sound c =
+    let tested : (not (eqb (length c.args.map.now) map_size) || not c.sound.result) ≡ unsound c.args.self c.args.map.now = λ i. not (eqb (length c.args.map.now) map_size) || not (c.sound.ensures i) in
+    let a = c.args in
+    let s = a.bytes.now in
+    let e = answer_1 a.self a.map.now s (sym tested ∙ c.if-map-sound.true) in
+    let h = refused_hands_back a.self a.map.now s (λ z. eqb-false 1 0 refl (sym e ∙ z)) in
+    ((λ i. record { answer = sym e i; ledger = sym h.0 i }), sym h.1)
+
+pub add-requires : goal.add-requires
+add-requires c =
+    let tested : (not (eqb (length c.args.map.now) map_size) || not c.sound.result) ≡ unsound c.args.self c.args.map.now = λ i. not (eqb (length c.args.map.now) map_size) || not (c.sound.ensures i) in
+    let fine : unsound c.args.self c.args.map.now ≡ false = sym tested ∙ c.if-map-sound.false in
+    let a = c.args in
+    let sound = not-false _ (or_right (not (eqb (length a.map.now) map_size)) _ fine) in
+    subst⁻¹ (Fits a.self) c.judge-v.ensures (verdict_fits a.self a.map.now a.bytes.now sound)
+
+pub returns : goal.returns
+returns c =
+    let tested : (not (eqb (length c.args.map.now) map_size) || not c.sound.result) ≡ unsound c.args.self c.args.map.now = λ i. not (eqb (length c.args.map.now) map_size) || not (c.sound.ensures i) in
+    let fine : unsound c.args.self c.args.map.now ≡ false = sym tested ∙ c.if-map-sound.false in
+    let a = c.args in
+    let s = a.bytes.now in
+    let v = c.judge-v.ensures in
+    let h = take_judged a.self a.map.now s fine in
+    let answer =
+    c.add.ensures.0 ∙
+    ap (λ (x : Verdict). x.answer) v ∙
+    verdict_answer s a.self.sheet a.map.now a.self.events ∙
+    sym (answer_judged a.self a.map.now s fine) in
+    let next = c.add.ensures.1 ∙ ap (added a.self) v ∙ sym h.0 in (
+      (λ i. record { answer = answer i; ledger = next i }),
+      c.mark.ensures ∙ ap (λ (x : Verdict). marked_with a.map.now x.number) v ∙ sym h.1,
+    )
