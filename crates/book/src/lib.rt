@@ -1,5 +1,6 @@
 // Taking a whole book: a refused record is counted and passed over, and a broken length counts as one refusal and ends the reading.
 #![tactic(auto)]
+
 ghost use Rattle.std.specs.Prelude.{◌≡◌, true, length};
 ghost use Rattle.used_numbers.specs.Marks.{map_size};
 ghost use Rattle.ledger.specs.Sound.{sound_ledger};
