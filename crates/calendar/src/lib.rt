@@ -1,5 +1,6 @@
 // Minutes from 1 January 00:00 of a year as a month, a day, an hour and a minute, and back.
 #![tactic(auto)]
+
 ghost use Rattle.std.specs.Prelude.{◌≡◌};
 ghost use Rattle.calendar.specs.Calendar.{days_in, date_of, minute_of};
 

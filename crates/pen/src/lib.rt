@@ -1,6 +1,7 @@
 // Bytes written one after the other into a lent buffer. Each function takes the place of the next byte and hands back the place after what it wrote; what
 // does not fit is left out.
 #![tactic(auto)]
+
 ghost use Rattle.std.specs.Prelude.{◌%◌, ◌≡◌};
 ghost use Rattle.pen.specs.Pen.{spot, pushed, pushed_all, hex_digit, hex_text};
 ghost use Rattle.wire.specs.Numbers.{le2, le4};

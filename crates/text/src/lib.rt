@@ -1,5 +1,6 @@
 // Text put together byte by byte in an array by value.
 #![tactic(auto)]
+
 ghost use Rattle.std.specs.Prelude.{◌≡◌, []};
 ghost use Rattle.text.specs.Text.{text_of, pushed, pushed_all, number_text, two_text};
 

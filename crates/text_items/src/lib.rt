@@ -1,5 +1,6 @@
 // The lines of a book's text: which items stand in a line of each sort, one after the other.
 #![tactic(auto)]
+
 ghost use Rattle.std.specs.Prelude.{◌≡◌};
 ghost use Rattle.text_items.specs.Shape.{item_of, most_of, whole_of, bar_before};
 

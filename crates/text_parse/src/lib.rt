@@ -1,5 +1,6 @@
 // A line of text read as an entry: its word, then its items, each parted from the next.
 #![tactic(auto)]
+
 ghost use Rattle.std.specs.Prelude.{◌≡◌};
 ghost use Rattle.text_parse.specs.Entry.{begins_with, word_of, next_field, item_due, gap_before, next_cell, refused_at, gathered, parsed_of, items_read, item_refused};
 

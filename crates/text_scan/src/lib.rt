@@ -1,5 +1,6 @@
 // The items of a line of text: gaps between them, numbers, times and hexadecimal digits. Each function reads the front of what is left of the line.
 #![tactic(auto)]
+
 ghost use Rattle.std.specs.Prelude.{◌≡◌, ◌-◌};
 ghost use Rattle.text_scan.specs.Scan.{is_gap, gaps_in, ends_here, parted_here, said_at, separates, separator_of, is_other, other_at, separator_place, gap_said, digits_of, number_found, date_found, time_found, hex_found, item_found};
 
