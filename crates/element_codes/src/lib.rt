@@ -1,5 +1,6 @@
 // The elements of section 9.8 of the annex: their codes, as printed, and each one's row in a table of elements.
 #![tactic(auto)]
+
 ghost use Rattle.std.specs.Prelude.{◌≡◌};
 ghost use Rattle.base.specs.Lists.{listed, place};
 ghost use Rattle.element_codes.specs.Elements.{element_listed, row_of, code_at};

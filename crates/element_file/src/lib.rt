@@ -1,6 +1,7 @@
 // A yearly file taken into an element table: a refused record is counted and passed over, and a broken length counts as one refusal and ends the
 // reading of that file.
 #![tactic(auto)]
+
 ghost use Rattle.std.specs.Prelude.{◌≡◌};
 ghost use Rattle.element_file.specs.Yearly.{pass_of, file_of};
 

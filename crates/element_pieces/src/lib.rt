@@ -1,6 +1,7 @@
 // Taking a yearly file in pieces as they arrive: the whole records of what has arrived are taken, and the bytes of a record
 // that is not whole yet are kept at the front of a lent buffer.
 #![tactic(auto)]
+
 ghost use Rattle.std.specs.Prelude.{◌≡◌};
 ghost use Rattle.element_pieces.specs.Inflow.{begun_of, flowed_of, buffer_after, finished_of};
 

@@ -1,5 +1,6 @@
 // The figures of section 5 of the annex for each element: how often it is out, and how long on average, as exact fractions in lowest terms.
 #![tactic(auto)]
+
 ghost use Rattle.std.specs.Prelude.{◌≡◌, ◌≤◌};
 ghost use Rattle.element_rates.specs.Rates.{weight_of, rate_of, mean_of, shown_figure, shown_rate, shown_mean};
 

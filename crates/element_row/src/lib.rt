@@ -1,5 +1,6 @@
 // What is known of one element of 9.8 over an observation period: a row of the element table.
 #![tactic(auto)]
+
 ghost use Rattle.std.specs.Prelude.{◌≡◌, ◌*◌, ◌≤◌};
 ghost use Rattle.element_row.specs.Row.{most_outages, longest, no_row, row_within, with_outage, with_stock};
 

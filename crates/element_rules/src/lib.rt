@@ -1,5 +1,6 @@
 // The smallest number that applies to a record of a yearly file, by its kind, once the table is sound and the record framed.
 #![tactic(auto)]
+
 ghost use Rattle.std.specs.Prelude.{◌≡◌};
 ghost use Rattle.element_rules.specs.Answers.{sheet_answer, outage_answer, stock_answer};
 

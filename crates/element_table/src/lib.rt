@@ -1,5 +1,6 @@
 // The element table: outages, minutes and stock of each element of 9.8 over an observation period, taken from yearly files record by record.
 #![tactic(auto)]
+
 ghost use Rattle.std.specs.Prelude.{◌≡◌, ◌≤◌};
 ghost use Rattle.base.specs.Lists.{every};
 ghost use Rattle.wire.specs.Frame.{kind_of};
@@ -88,6 +89,7 @@ impl Table {
     }
 
     // Begins a file: its year sheet is yet to be seen. 1 for an unsound table.
+    #[tactic(auto, unfolding(crate::specs::Table::file_begun))]
     pub fn begin_file(mut self) -> Filed
         ensures { result ≡ file_begun self }
     {
@@ -105,6 +107,7 @@ impl Table {
     }
 
     // The smallest number that applies to a record, 0 where none does.
+    #[tactic(auto, unfolding(crate::specs::Rules::answer_of))]
     fn answer_to(self, bytes: &[u8]) -> u8
         ensures { result ≡ answer_of self bytes.now }
     {
