@@ -1,5 +1,6 @@
 // The roll of a desk: what one pass over its slots gathers, and the searches in it.
 #![tactic(auto)]
+
 ghost use Rattle.std.specs.Prelude.{◌≡◌, ◌+◌, drop, set};
 ghost use Rattle.base.specs.Lists.{listed, place};
 ghost use Rattle.desk_scan.specs.Desk.{differ};

@@ -1,5 +1,6 @@
 // One slot of the desk: an open outage with what its steps have come to, or a free slot, which holds zeros only.
 #![tactic(auto)]
+
 ghost use Rattle.std.specs.Prelude.{◌≡◌, true, ◌-◌, ◌≤◌};
 ghost use Rattle.annex.specs.Inside.{Ready};
 ghost use Rattle.slot.specs.Slot.{free_slot, opened_by, course_in, stepped_by};

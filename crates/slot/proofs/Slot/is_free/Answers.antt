@@ -4,7 +4,6 @@ use mathlib.Core.Bool.{Bool, ◌&&◌}
 use lib.Dec.{eqb}
 use Rattle.slot.specs.declared.Slot.{Slot}
 use Rattle.slot.specs.Sound.{no_customers, no_halves, is_free}
-use borrow.Author.Tests.{not-true, not-false}
 use Rattle.slot.proofs.Slot.is_free.Goals as goal
 
 -- zeros in all but the figures
@@ -20,14 +19,14 @@ pub returns-then-not-unbegun : goal.returns-then-not-unbegun
 unfolding is_free
 returns-then-not-unbegun c =
     let s = c.args.self in
-    sym (ap (λ a. a && no_customers s.figures && no_halves s.figures) (not-true (unbegun s) c.if-not-unbegun.true))
+    sym (ap (λ a. a && no_customers s.figures && no_halves s.figures) c.if-not-unbegun.true)
 
 pub returns-then-not-no_customers : goal.returns-then-not-no_customers
 returns-then-not-no_customers c =
     let s = c.args.self in
-    sym (free-by s (not-false (unbegun s) c.if-not-unbegun.false) (sym c.no_customers.ensures ∙ c.if-not-no_customers.true))
+    sym (free-by s c.if-not-unbegun.false (sym c.no_customers.ensures ∙ c.if-not-no_customers.true))
 
 pub returns : goal.returns
 returns c =
     let s = c.args.self in
-    c.no_halves.ensures ∙ sym (free-by s (not-false (unbegun s) c.if-not-unbegun.false) (sym c.no_customers.ensures ∙ c.if-not-no_customers.false))
+    c.no_halves.ensures ∙ sym (free-by s c.if-not-unbegun.false (sym c.no_customers.ensures ∙ c.if-not-no_customers.false))

@@ -1,0 +1,14 @@
+use Prim.Native.Nat.{◌≤◌, ◌-◌}
+use mathlib.Core.Path.{◌≡◌}
+use mathlib.Core.Bool.{◌||◌}
+use lib.ListN.{length, drop}
+use Rattle.base.specs.Lists.{listed}
+use Rattle.desk_scan.proofs.TableLaws.{standing}
+use Rattle.desk_scan.proofs.listed_from.Given as goal
+
+abbrev pub invariant-loop-i : goal.invariant-loop-i
+invariant-loop-i l =
+    (l.i ≤ 32) × (listed l.number (drop l.start l.table) ≡ (l.hit || listed l.number (drop (standing l.start l.i) l.table))) × (length l.table ≡ 32)
+
+abbrev pub decreases-loop-i : goal.decreases-loop-i
+decreases-loop-i l = 32 - l.i
