@@ -22,6 +22,8 @@
 //   row TYPE                   customers and half minutes of a type on NN, VN, VVN
 // All but a RECORD are told by their first letter, and numbers are found whatever stands between them. What begins as no line or case does is printed
 // as such.
+#![tactic(auto)]
+
 ghost use Rattle.std.specs.Prelude.{◌≡◌, length};
 ghost use Rattle.wire.specs.Book.{which_at, record_at, after_at};
 ghost use Rattle.wire.specs.Cut.{records_of, stop_from, ends_by};
@@ -30,31 +32,29 @@ use annex::{Customers, HalfMinutes};
 use book::Read;
 use fields::Sheet;
 use ledger::{Cell, Ledger, TypeRow};
-use libc::{STDIN_FILENO, STDOUT_FILENO};
 use reader::Reader;
 use text_items::Entry;
 
 // ---- what is printed
 
-fn word(text: &[u8]) {
-    io::write_all(STDOUT_FILENO, text);
+fn word(out: &impl Print, text: &[u8]) {
+    let _ = out.write_all(text);
 }
 
-fn number(n: u64) {
-    word(b" ");
-    io::print_decimal(STDOUT_FILENO, n);
+fn number(out: &impl Print, n: u64) {
+    let _ = print!(out; " {n}");
 }
 
-fn print_cell(c: Cell) {
-    number(c.customers.0);
-    number(c.halves.0);
+fn print_cell(out: &impl Print, c: Cell) {
+    number(out, c.customers.0);
+    number(out, c.halves.0);
 }
 
 // Something that is no line, or no case.
-fn wrong(what: &[u8]) {
-    word(b" NOT KNOWN: ");
-    word(what);
-    word(b"\n");
+fn wrong(out: &impl Print, what: &[u8]) {
+    word(out, b" NOT KNOWN: ");
+    word(out, what);
+    word(out, b"\n");
 }
 
 // ---- what is read
@@ -72,7 +72,7 @@ fn place_of(text: &[u8], start: usize, byte: u8) -> usize {
 }
 
 // The first numbers of a line: as many as are read, each of them, 0 past them, and whether the last byte was a digit.
-#[derive(Drop)]
+#[derive(Clone, Copy)]
 struct Numbers {
     count: usize,
     values: [u64; 12],
@@ -86,7 +86,7 @@ fn with_digit(n: Numbers, digit: u64) -> Numbers {
     if at < 12 {
         let value = next.values[at];
         if value <= 1844674407370955161 {
-            next.values[at] = std::num::wrapping_add_u64(value * 10, digit);
+            next.values[at] = (value * 10).wrapping_add(digit);
         }
     }
     next.inside = true;
@@ -132,7 +132,7 @@ fn past_word(s: &[u8]) -> &[u8] {
 // ---- what is lent
 
 // A ledger, a map of so many bytes, and the bytes that are ready.
-#[derive(Drop)]
+#[derive(Clone, Copy)]
 struct Bench {
     ledger: Ledger,
     map: [u8; 8193],
@@ -267,89 +267,89 @@ fn first_of(bytes: &mut [u8], what: &[u8]) -> usize {
 }
 
 // The bytes of a case, put where the ready ones stand: how many.
-fn put_bytes(bytes: &mut [u8], what: &[u8]) -> usize {
+fn put_bytes(out: &impl Print, bytes: &mut [u8], what: &[u8]) -> usize {
     if wire::byte_at(what, 0) == b'f' {
         return first_of(bytes, what);
     }
     let parsed = text_parse::parse(what, 0);
     if parsed.answer != 0 {
-        wrong(what);
+        wrong(out, what);
     }
     let told = parsed.entry;
     pack::pack(bytes, 0, told)
 }
 
-fn print_first_cell(l: Ledger) {
+fn print_first_cell(out: &impl Print, l: Ledger) {
     let row = l.rows[0];
-    print_cell(row.levels[0]);
+    print_cell(out, row.levels[0]);
 }
 
-fn print_counts(l: Ledger) {
-    number(l.events as u64);
-    number(l.short as u64);
+fn print_counts(out: &impl Print, l: Ledger) {
+    number(out, l.events as u64);
+    number(out, l.short as u64);
 }
 
-fn print_added(l: Ledger) {
-    print_counts(l);
-    print_first_cell(l);
+fn print_added(out: &impl Print, l: Ledger) {
+    print_counts(out, l);
+    print_first_cell(out, l);
 }
 
 // The offset and the value of a byte that is not 0.
-fn print_mark(at: usize, byte: u8) {
+fn print_mark(out: &impl Print, at: usize, byte: u8) {
     if byte != 0 {
-        number(at as u64);
-        number(byte as u64);
+        number(out, at as u64);
+        number(out, byte as u64);
     }
 }
 
-fn print_marks(map: &[u8]) {
+fn print_marks(out: &impl Print, map: &[u8]) {
     let mut i = 0;
     while i < map.len() {
-        print_mark(i, map[i]);
+        print_mark(out, i, map[i]);
         i += 1;
     }
 }
 
 // The answer to a record, and what the case's first letter asks beside it.
-fn print_taken(letter: u8, answer: u8, l: Ledger, map: &[u8]) {
-    number(answer as u64);
+fn print_taken(out: &impl Print, letter: u8, answer: u8, l: Ledger, map: &[u8]) {
+    number(out, answer as u64);
     match letter {
-        b'a' => print_added(l),
-        b'm' => print_marks(map),
+        b'a' => print_added(out, l),
+        b'm' => print_marks(out, map),
         _ => {}
     }
 }
 
 // The bench after a case's bytes were taken as one record.
-fn taken(b: Bench, letter: u8, what: &[u8]) -> Bench {
+fn taken(out: &impl Print, b: Bench, letter: u8, what: &[u8]) -> Bench {
     let mut bytes = b.bytes;
-    let held = put_bytes(&mut bytes, what);
+    let held = put_bytes(out, &mut bytes, what);
     let mut map = b.map;
     let l = b.ledger;
     let t = l.take(sized(&mut map, b.size), wire::part(&bytes, 0, held));
     let next = t.ledger;
-    print_taken(letter, t.answer, next, &map);
+    print_taken(out, letter, t.answer, next, &map);
     with_both(b, next, map)
 }
 
-fn print_read(r: Read) {
+fn print_read(out: &impl Print, r: Read) {
     let l = r.ledger;
-    number(r.answer as u64);
-    print_counts(l);
-    number(r.refused);
-    number(if r.broken { 1 } else { 0 });
-    print_first_cell(l);
+    number(out, r.answer as u64);
+    print_counts(out, l);
+    number(out, r.refused);
+    number(out, if r.broken { 1 } else { 0 });
+    print_first_cell(out, l);
 }
 
 // The bench after a case's bytes were read as a book.
-fn read(b: Bench, what: &[u8]) -> Bench {
+fn read(out: &impl Print, b: Bench, what: &[u8]) -> Bench {
     let mut bytes = b.bytes;
-    let held = put_bytes(&mut bytes, what);
+    let held = put_bytes(out, &mut bytes, what);
     let mut map = b.map;
     let l = b.ledger;
     let r = book::take_book(l, sized(&mut map, b.size), wire::part(&bytes, 0, held));
     let next = r.ledger;
-    print_read(r);
+    print_read(out, r);
     with_both(b, next, map)
 }
 
@@ -376,20 +376,20 @@ fn first_from(book: &[u8], at: usize) -> Asked
     }
 }
 
-fn print_asked(a: Asked) {
-    number(a.which as u64);
-    number(a.size as u64);
-    number(a.at as u64);
-    number(a.again as u64);
+fn print_asked(out: &impl Print, a: Asked) {
+    number(out, a.which as u64);
+    number(out, a.size as u64);
+    number(out, a.at as u64);
+    number(out, a.again as u64);
 }
 
 // A case `next`: what a reader of its bytes answers at its offset.
-fn ask(lent: [u8; 2048], what: &[u8]) {
+fn ask(out: &impl Print, lent: [u8; 2048], what: &[u8]) {
     let n = numbers_in(what);
     let v = n.values;
     let mut bytes = lent;
-    let held = put_bytes(&mut bytes, past_word(past_word(what)));
-    print_asked(first_from(wire::part(&bytes, 0, held), v[0] as usize));
+    let held = put_bytes(out, &mut bytes, past_word(past_word(what)));
+    print_asked(out, first_from(wire::part(&bytes, 0, held), v[0] as usize));
 }
 
 // What a book's reader comes to: how many records it gave, where it was left, and how it ended (1 the end, 2 a broken length).
@@ -417,74 +417,74 @@ fn count_records(book: &[u8]) -> Counted
     }
 }
 
-fn print_counted(c: Counted) {
-    number(c.count as u64);
-    number(c.at as u64);
-    number(c.which as u64);
+fn print_counted(out: &impl Print, c: Counted) {
+    number(out, c.count as u64);
+    number(out, c.at as u64);
+    number(out, c.which as u64);
 }
 
 // A case `count`: what a reader of its bytes comes to.
-fn count(lent: [u8; 2048], what: &[u8]) {
+fn count(out: &impl Print, lent: [u8; 2048], what: &[u8]) {
     let mut bytes = lent;
-    let held = put_bytes(&mut bytes, past_word(what));
-    print_counted(count_records(wire::part(&bytes, 0, held)));
+    let held = put_bytes(out, &mut bytes, past_word(what));
+    print_counted(out, count_records(wire::part(&bytes, 0, held)));
 }
 
-fn print_row(l: Ledger, typ: u64) {
+fn print_row(out: &impl Print, l: Ledger, typ: u64) {
     let at = place(typ);
     if at < codes::ROWS {
         let row = l.rows[at];
-        print_cell(row.levels[0]);
-        print_cell(row.levels[1]);
-        print_cell(row.levels[2]);
+        print_cell(out, row.levels[0]);
+        print_cell(out, row.levels[1]);
+        print_cell(out, row.levels[2]);
     }
 }
 
-fn print_levels(first: u64, last: u64) {
+fn print_levels(out: &impl Print, first: u64, last: u64) {
     let mut code: usize = 0;
     while code < 256 {
         if (first <= code as u64) & (code as u64 <= last) {
-            number(codes::level_of((code % 256) as u8) as u64);
+            number(out, codes::level_of((code % 256) as u8) as u64);
         }
         code += 1;
     }
 }
 
 // What is asked of the codes, the ledger or the ready bytes, which stay as they are.
-fn tell(b: Bench, what: &[u8]) {
+fn tell(out: &impl Print, b: Bench, what: &[u8]) {
     let l = b.ledger;
     let bytes = b.bytes;
     let n = numbers_in(what);
     let v = n.values;
     match wire::byte_at(what, 0) {
-        b'e' => number(l.events as u64),
-        b'n' => ask(bytes, what),
-        b'c' => count(bytes, what),
-        b'l' => print_levels(v[0], v[1]),
-        _ => print_row(l, v[0]),
+        b'e' => number(out, l.events as u64),
+        b'n' => ask(out, bytes, what),
+        b'c' => count(out, bytes, what),
+        b'l' => print_levels(out, v[0], v[1]),
+        _ => print_row(out, l, v[0]),
     }
 }
 
 // Prints what a case comes to: the bench after it.
-fn run_asked(b: Bench, what: &[u8]) -> Bench {
+fn run_asked(out: &impl Print, b: Bench, what: &[u8]) -> Bench {
     let letter = wire::byte_at(what, 0);
     match letter {
-        b'a' | b'm' => taken(b, letter, past_word(what)),
-        b'b' => read(b, past_word(what)),
+        b'a' | b'm' => taken(out, b, letter, past_word(what)),
+        b'b' => read(out, b, past_word(what)),
         b'c' | b'e' | b'l' | b'n' | b'r' => {
-            tell(b, what);
+            tell(out, b, what);
             b
         }
-        _ => taken(b, letter, what),
+        _ => taken(out, b, letter, what),
     }
 }
 
 // A line with a colon at a place: a case.
-fn run_case(b: Bench, line: &[u8], colon: usize) -> Bench {
-    word(wire::part(line, 0, colon));
+fn run_case(out: &impl Print, b: Bench, line: &[u8], colon: usize) -> Bench {
+    word(out, wire::part(line, 0, colon));
     let rest = wire::part(line, colon, line.len());
-    let next = run_asked(b, past_word(rest));
-    word(b"\n");
+    let next = run_asked(out, b, past_word(rest));
+    word(out, b"\n");
     if wire::byte_at(rest, 1) == b'=' {
         return next;
     }
@@ -492,7 +492,7 @@ fn run_case(b: Bench, line: &[u8], colon: usize) -> Bench {
 }
 
 // A line that is no record and no case: what it lends.
-fn lent(b: Bench, line: &[u8]) -> Bench {
+fn lent(out: &impl Print, b: Bench, line: &[u8]) -> Bench {
     let n = numbers_in(line);
     let v = n.values;
     let l = b.ledger;
@@ -503,49 +503,49 @@ fn lent(b: Bench, line: &[u8]) -> Bench {
         b'm' => with_map(b, v[0]),
         b'b' => with_no_bytes(b),
         _ => {
-            wrong(line);
+            wrong(out, line);
             b
         }
     }
 }
 
 // A line that is no heading and no record.
-fn take_other(b: Bench, line: &[u8]) -> Bench {
+fn take_other(out: &impl Print, b: Bench, line: &[u8]) -> Bench {
     let colon = place_of(line, 0, b':');
     if colon < line.len() {
-        return run_case(b, line, colon);
+        return run_case(out, b, line, colon);
     }
-    lent(b, line)
+    lent(out, b, line)
 }
 
 // A line that is no heading.
-fn take_words(b: Bench, line: &[u8]) -> Bench {
+fn take_words(out: &impl Print, b: Bench, line: &[u8]) -> Bench {
     let parsed = text_parse::parse(line, 0);
     let told = parsed.entry;
     let answer = parsed.answer;
     match answer {
         0 => with_record(b, told),
-        _ => take_other(b, line),
+        _ => take_other(out, b, line),
     }
 }
 
-fn take_line(b: Bench, line: &[u8]) -> Bench {
+fn take_line(out: &impl Print, b: Bench, line: &[u8]) -> Bench {
     match wire::byte_at(line, 0) {
         b'-' => {
-            word(line);
-            word(b"\n");
+            word(out, line);
+            word(out, b"\n");
             b
         }
-        _ => take_words(b, line),
+        _ => take_words(out, b, line),
     }
 }
 
-fn run(text: &[u8]) {
+fn run(out: &impl Print, text: &[u8]) {
     let mut b = begun();
     let mut stop: usize = 0;
     while stop < text.len() {
         let end = place_of(text, stop, b'\n');
-        b = take_line(b, wire::part(text, stop, end));
+        b = take_line(out, b, wire::part(text, stop, end));
         if text.len() <= end {
             return;
         }
@@ -556,8 +556,8 @@ fn run(text: &[u8]) {
     }
 }
 
-fn main() {
-    let mut text = io::large_buffer();
-    let n = io::read_full(STDIN_FILENO, &mut text);
-    run(&text[..n]);
+fn main(rt: HostRuntime) {
+    let mut text = [0u8; 65536];
+    let n = refill::read_full(&mut rt.stdin(), &mut text);
+    run(&rt, &text[..n]);
 }

@@ -1,6 +1,8 @@
 // A book as text: one book on standard input, its lines on standard output, each under the answer that its record gets.
+#![tactic(auto)]
+
 use ledger::Ledger;
-use libc::{STDERR_FILENO, STDIN_FILENO, STDOUT_FILENO};
+use std::io;
 use text_items::Entry;
 
 // More pieces than any file has: 2^40. Past them the reading has failed.
@@ -22,8 +24,8 @@ struct Page {
 }
 
 // Writes out the bytes that wait.
-fn write_out(out: &[u8], page: Page) -> Page {
-    let written = io::write_all(STDOUT_FILENO, wire::part(out, 0, page.at));
+fn write_out(rt: &impl Print, out: &[u8], page: Page) -> Page {
+    let written = rt.write_all(wire::part(out, 0, page.at)).is_ok();
     Page {
         at: 0,
         lost: page.lost | !written,
@@ -31,15 +33,15 @@ fn write_out(out: &[u8], page: Page) -> Page {
 }
 
 // The page with room for a comment or a line.
-fn with_room(out: &[u8], page: Page) -> Page {
+fn with_room(rt: &impl Print, out: &[u8], page: Page) -> Page {
     if page.at < MOST_WAITING {
         return page;
     }
-    write_out(out, page)
+    write_out(rt, out, page)
 }
 
-fn say(out: &mut [u8], page: Page, words: &[u8]) -> Page {
-    let begun = with_room(&out[..], page);
+fn say(rt: &impl Print, out: &mut [u8], page: Page, words: &[u8]) -> Page {
+    let begun = with_room(rt, &out[..], page);
     let at = pen::put_words(out, begun.at, words);
     Page {
         at,
@@ -72,12 +74,13 @@ const STARTS: [usize; 16] = [
 ];
 
 // The comment on a refusal, or nothing where there is none.
-fn say_refused(out: &mut [u8], page: Page, answer: usize) -> Page {
+fn say_refused(rt: &impl Print, out: &mut [u8], page: Page, answer: usize) -> Page {
     let starts = STARTS;
     if 15 <= answer {
         return page;
     }
     say(
+        rt,
         out,
         page,
         wire::part(&COMMENTS, starts[answer], starts[answer + 1]),
@@ -85,28 +88,29 @@ fn say_refused(out: &mut [u8], page: Page, answer: usize) -> Page {
 }
 
 // The comment on an accepted record stands by itself: most records are accepted, and a look into the table copies it.
-fn say_accepted(out: &mut [u8], page: Page, short: bool) -> Page {
+fn say_accepted(rt: &impl Print, out: &mut [u8], page: Page, short: bool) -> Page {
     if short {
         return say(
+            rt,
             out,
             page,
             b"# accepted as short: 3 minutes or less, added to no total\n",
         );
     }
-    say(out, page, b"# accepted\n")
+    say(rt, out, page, b"# accepted\n")
 }
 
-fn say_answer(out: &mut [u8], page: Page, answer: u8, short: bool) -> Page {
+fn say_answer(rt: &impl Print, out: &mut [u8], page: Page, answer: u8, short: bool) -> Page {
     if answer == 0 {
-        return say_accepted(out, page, short);
+        return say_accepted(rt, out, page, short);
     }
-    say_refused(out, page, answer as usize)
+    say_refused(rt, out, page, answer as usize)
 }
 
 // ---- lines
 
-fn say_line(out: &mut [u8], page: Page, entry: Entry, year: u16) -> Page {
-    let begun = with_room(&out[..], page);
+fn say_line(rt: &impl Print, out: &mut [u8], page: Page, entry: Entry, year: u16) -> Page {
+    let begun = with_room(rt, &out[..], page);
     let end = text_write::write_line(out, begun.at, entry, year);
     let at = pen::put(out, end, 10);
     Page {
@@ -116,11 +120,12 @@ fn say_line(out: &mut [u8], page: Page, entry: Entry, year: u16) -> Page {
 }
 
 // Bytes, up to 32 in a line.
-fn say_bytes(out: &mut [u8], begun: Page, bytes: &[u8]) -> Page {
+fn say_bytes(rt: &impl Print, out: &mut [u8], begun: Page, bytes: &[u8]) -> Page {
     let mut page = begun;
     let mut at = 0;
     while at < bytes.len() {
         page = say_line(
+            rt,
             out,
             page,
             unpack::bytes_entry(wire::part(bytes, at, bytes.len())),
@@ -134,16 +139,17 @@ fn say_bytes(out: &mut [u8], begun: Page, bytes: &[u8]) -> Page {
     page
 }
 
-fn say_record(out: &mut [u8], page: Page, record: &[u8], year: u16) -> Page {
+fn say_record(rt: &impl Print, out: &mut [u8], page: Page, record: &[u8], year: u16) -> Page {
     let entry = unpack::unpack(record);
     if entry.kind == text_items::BLANK {
-        return say_bytes(out, page, record);
+        return say_bytes(rt, out, page, record);
     }
-    say_line(out, page, entry, year)
+    say_line(rt, out, page, entry, year)
 }
 
-fn say_first(out: &mut [u8]) -> Page {
+fn say_first(rt: &impl Print, out: &mut [u8]) -> Page {
     say(
+        rt,
         out,
         Page { at: 0, lost: false },
         b"# sheet: year | customers on NN VN VVN\n\
@@ -163,10 +169,17 @@ struct Reading {
 }
 
 // One record: its answer, and its line.
-fn take_record(reading: Reading, map: &mut [u8], record: &[u8], out: &mut [u8]) -> Reading {
+fn take_record(
+    rt: &impl Print,
+    reading: Reading,
+    map: &mut [u8],
+    record: &[u8],
+    out: &mut [u8],
+) -> Reading {
     let taken = reading.ledger.take(map, record);
     let next = taken.ledger;
     let answered = say_answer(
+        rt,
         out,
         reading.page,
         taken.answer,
@@ -175,7 +188,7 @@ fn take_record(reading: Reading, map: &mut [u8], record: &[u8], out: &mut [u8]) 
     Reading {
         ledger: next,
         year: unpack::year_after(reading.year, record),
-        page: say_record(out, answered, record, reading.year),
+        page: say_record(rt, out, answered, record, reading.year),
     }
 }
 
@@ -187,7 +200,13 @@ struct Records {
 }
 
 // The whole records of what has arrived.
-fn take_records(begun: Reading, map: &mut [u8], bytes: &[u8], out: &mut [u8]) -> Records {
+fn take_records(
+    rt: &impl Print,
+    begun: Reading,
+    map: &mut [u8],
+    bytes: &[u8],
+    out: &mut [u8],
+) -> Records {
     let mut reading = begun;
     let mut stop = 0;
     let mut turns: usize = 0;
@@ -196,7 +215,13 @@ fn take_records(begun: Reading, map: &mut [u8], bytes: &[u8], out: &mut [u8]) ->
         if stand.which != 0 {
             return Records { reading, stop };
         }
-        reading = take_record(reading, map, wire::part(bytes, stand.start, stand.end), out);
+        reading = take_record(
+            rt,
+            reading,
+            map,
+            wire::part(bytes, stand.start, stand.end),
+            out,
+        );
         stop = stand.end;
         turns += 1;
     }
@@ -251,22 +276,35 @@ fn hold(records: Records, buffer: &mut [u8], count: usize) -> Piece {
 
 // One piece more of a book: its whole records are taken, and the rest is held.
 fn take_piece(
+    rt: &impl Print,
+    reader: &mut impl io::Read,
     reading: Reading,
     map: &mut [u8],
     buffer: &mut [u8],
     held: usize,
     out: &mut [u8],
 ) -> Piece {
-    let filled = refill::read_behind(STDIN_FILENO, buffer, held);
+    let filled = refill::read_behind(reader, buffer, held);
     if filled.ended {
         return ended(reading, held, filled.failed);
     }
     let bytes = wire::part(&buffer[..], 0, filled.count);
-    hold(take_records(reading, map, bytes, out), buffer, filled.count)
+    hold(
+        take_records(rt, reading, map, bytes, out),
+        buffer,
+        filled.count,
+    )
 }
 
 // Takes the records of a book, to its end or to a broken length.
-fn read_book(begun: Page, map: &mut [u8], buffer: &mut [u8], out: &mut [u8]) -> Piece {
+fn read_book(
+    rt: &impl Print,
+    reader: &mut impl io::Read,
+    begun: Page,
+    map: &mut [u8],
+    buffer: &mut [u8],
+    out: &mut [u8],
+) -> Piece {
     let mut reading = Reading {
         ledger: Ledger::empty(),
         year: 0,
@@ -275,7 +313,7 @@ fn read_book(begun: Page, map: &mut [u8], buffer: &mut [u8], out: &mut [u8]) -> 
     let mut held: usize = 0;
     let mut pieces: u64 = 0;
     while pieces < MOST_PIECES {
-        let piece = take_piece(reading, map, buffer, held, out);
+        let piece = take_piece(rt, reader, reading, map, buffer, held, out);
         if piece.ended {
             return piece;
         }
@@ -297,16 +335,23 @@ struct Rest {
 }
 
 // Says whole lines of the bytes from a broken length on, to the input's end.
-fn say_rest(begun: Page, buffer: &mut [u8], count: usize, out: &mut [u8]) -> Rest {
+fn say_rest(
+    rt: &impl Print,
+    reader: &mut impl io::Read,
+    begun: Page,
+    buffer: &mut [u8],
+    count: usize,
+    out: &mut [u8],
+) -> Rest {
     let mut page = begun;
     let mut held = count;
     let mut pieces: u64 = 0;
     while pieces < MOST_PIECES {
         let over = held % 32;
         let whole = held - over;
-        page = say_bytes(out, page, wire::part(&buffer[..], 0, whole));
+        page = say_bytes(rt, out, page, wire::part(&buffer[..], 0, whole));
         records::move_to_front(buffer, whole, held);
-        let filled = refill::read_behind(STDIN_FILENO, buffer, over);
+        let filled = refill::read_behind(reader, buffer, over);
         if filled.ended {
             return Rest {
                 page,
@@ -325,7 +370,14 @@ fn say_rest(begun: Page, buffer: &mut [u8], count: usize, out: &mut [u8]) -> Res
 }
 
 // Says all bytes from a broken length on, where the book did not end at a record's end.
-fn say_left(page: Page, buffer: &mut [u8], held: usize, out: &mut [u8]) -> Rest {
+fn say_left(
+    rt: &impl Print,
+    reader: &mut impl io::Read,
+    page: Page,
+    buffer: &mut [u8],
+    held: usize,
+    out: &mut [u8],
+) -> Rest {
     if held == 0 {
         return Rest {
             page,
@@ -333,10 +385,10 @@ fn say_left(page: Page, buffer: &mut [u8], held: usize, out: &mut [u8]) -> Rest 
             failed: false,
         };
     }
-    let begun = say_refused(out, page, BROKEN);
-    let rest = say_rest(begun, buffer, held, out);
+    let begun = say_refused(rt, out, page, BROKEN);
+    let rest = say_rest(rt, reader, begun, buffer, held, out);
     Rest {
-        page: say_bytes(out, rest.page, wire::part(&buffer[..], 0, rest.held)),
+        page: say_bytes(rt, out, rest.page, wire::part(&buffer[..], 0, rest.held)),
         held: 0,
         failed: rest.failed,
     }
@@ -344,22 +396,24 @@ fn say_left(page: Page, buffer: &mut [u8], held: usize, out: &mut [u8]) -> Rest 
 
 // ---- what goes wrong: one line each on standard error
 
-fn complain(lost: bool, failed: bool) {
+fn complain(rt: &impl Eprint, lost: bool, failed: bool) {
     if lost {
-        io::write_all(STDERR_FILENO, b"book_read: the text cannot be written\n");
+        let _ = eprintln!(rt; "book_read: the text cannot be written");
     }
     if failed {
-        io::write_all(STDERR_FILENO, b"book_read: standard input cannot be read\n");
+        let _ = eprintln!(rt; "book_read: standard input cannot be read");
     }
 }
 
-fn main() {
+fn main(rt: HostRuntime) {
     let mut map = [0u8; 8192];
-    let mut buffer = io::large_buffer();
-    let mut out = io::large_buffer();
-    let begun = say_first(&mut out);
-    let piece = read_book(begun, &mut map, &mut buffer, &mut out);
-    let rest = say_left(piece.reading.page, &mut buffer, piece.held, &mut out);
-    let page = write_out(&out[..], rest.page);
-    complain(page.lost, piece.failed | rest.failed);
+    let mut buffer = [0u8; 65536];
+    let mut out = [0u8; 65536];
+    let mut reader = rt.stdin();
+    let begun = say_first(&rt, &mut out);
+    let piece = read_book(&rt, &mut reader, begun, &mut map, &mut buffer, &mut out);
+    let page = piece.reading.page;
+    let rest = say_left(&rt, &mut reader, page, &mut buffer, piece.held, &mut out);
+    let page = write_out(&rt, &out[..], rest.page);
+    complain(&rt, page.lost, piece.failed | rest.failed);
 }

@@ -1,6 +1,10 @@
 // A book from text: the name of a text as argument, the book that its lines stand for on standard output. The text is read twice, and nothing is written
 // unless all of it is right.
-use libc::{STDERR_FILENO, STDOUT_FILENO};
+#![tactic(auto)]
+
+use std::fs::File;
+use std::io;
+use std::rt::{Env, Files};
 
 // More pieces than any file has: 2^40. Past them the reading has failed.
 const MOST_PIECES: u64 = 1099511627776;
@@ -13,8 +17,8 @@ const MOST_WAITING: usize = 61440;
 
 // ---- what goes wrong: one line on standard error
 
-fn tell(words: &[u8]) {
-    io::write_all(STDERR_FILENO, words);
+fn tell(err: &impl Print, words: &[u8]) {
+    let _ = err.write_all(words);
 }
 
 // What is told of a wrong line, one to a line here: what stands in the place of another thing, and what to write, by likeness's numbers from 1 to 5; then what
@@ -49,38 +53,38 @@ const STARTS: [usize; 22] = [
 // The sentences of likeness, before scan's.
 const LIKENESSES: usize = 5;
 
-fn tell_sentence(n: usize) {
+fn tell_sentence(err: &impl Print, n: usize) {
     let starts = STARTS;
     if 21 <= n {
         return;
     }
-    tell(wire::part(&SENTENCES, starts[n], starts[n + 1]));
+    tell(err, wire::part(&SENTENCES, starts[n], starts[n + 1]));
 }
 
 // What is wrong at a place of a line: what stands there where it has a name, and else what was expected.
-fn tell_wrong(text: &[u8], at: usize, answer: u8, year: u16) {
+fn tell_wrong(err: &impl Print, text: &[u8], at: usize, answer: u8, year: u16) {
     let likeness = likeness::likeness_of(text, at, answer, year);
     if likeness != 0 {
-        tell_sentence(likeness as usize);
+        tell_sentence(err, likeness as usize);
         return;
     }
-    tell_sentence(LIKENESSES + answer as usize);
+    tell_sentence(err, LIKENESSES + answer as usize);
 }
 
 // The place in the text: its name, the line and the column, each from 1.
-fn tell_where(name: &[u8], line: u64, column: u64) {
-    tell(name);
-    tell(b":");
-    io::print_decimal(STDERR_FILENO, line);
-    tell(b":");
-    io::print_decimal(STDERR_FILENO, column);
-    tell(b": ");
+fn tell_where(err: &impl Print, name: &[u8], line: u64, column: u64) {
+    tell(err, name);
+    tell(err, b":");
+    let _ = print!(err; "{line}");
+    tell(err, b":");
+    let _ = print!(err; "{column}");
+    tell(err, b": ");
 }
 
-fn complain(what: &[u8], why: &[u8]) {
-    tell(b"book_write: ");
-    tell(what);
-    tell(why);
+fn complain(err: &impl Print, what: &[u8], why: &[u8]) {
+    tell(err, b"book_write: ");
+    tell(err, what);
+    tell(err, why);
 }
 
 // ---- lines
@@ -95,7 +99,7 @@ fn next(n: u64) -> u64 {
 
 // The year that times are told in, the place of the book's next byte in the buffer where it waits, and whether the text is wrong or the book cannot be
 // written.
-#[derive(Drop)]
+#[derive(Clone, Copy)]
 struct Told {
     year: u16,
     at: usize,
@@ -103,16 +107,23 @@ struct Told {
 }
 
 // Writes out the bytes that wait. Whether that failed.
-fn write_out(out: &[u8], at: usize) -> bool {
-    if io::write_all(STDOUT_FILENO, wire::part(out, 0, at)) {
+fn write_out(rt: &impl Print, err: &impl Print, out: &[u8], at: usize) -> bool {
+    if rt.write_all(wire::part(out, 0, at)).is_ok() {
         return false;
     }
-    complain(b"the book", b" cannot be written\n");
+    complain(err, b"the book", b" cannot be written\n");
     true
 }
 
 // What waits after a line: nothing where the book is not to be written yet, and all that the buffer has room for.
-fn keep(out: &[u8], year: u16, at: usize, writing: bool) -> Told {
+fn keep(
+    rt: &impl Print,
+    err: &impl Print,
+    out: &[u8],
+    year: u16,
+    at: usize,
+    writing: bool,
+) -> Told {
     if !writing {
         return Told {
             year,
@@ -130,7 +141,7 @@ fn keep(out: &[u8], year: u16, at: usize, writing: bool) -> Told {
     Told {
         year,
         at: 0,
-        wrong: write_out(out, at),
+        wrong: write_out(rt, err, out, at),
     }
 }
 
@@ -144,6 +155,8 @@ fn year_after(year: u16, kind: u8, bytes: &[u8]) -> u16 {
 
 // One line, whose bytes are put behind those that wait.
 fn take_line(
+    rt: &impl Print,
+    err: &impl Print,
     name: &[u8],
     line: u64,
     text: &[u8],
@@ -153,9 +166,9 @@ fn take_line(
 ) -> Told {
     let parsed = text_parse::parse(text, told.year);
     if parsed.answer != 0 {
-        tell_where(name, line, next(parsed.at as u64));
-        tell_wrong(text, parsed.at, parsed.answer, told.year);
-        tell(b"\n");
+        tell_where(err, name, line, next(parsed.at as u64));
+        tell_wrong(err, text, parsed.at, parsed.answer, told.year);
+        tell(err, b"\n");
         return Told {
             year: told.year,
             at: told.at,
@@ -165,7 +178,7 @@ fn take_line(
     let entry = parsed.entry;
     let at = pack::pack(out, told.at, entry);
     let year = year_after(told.year, entry.kind, wire::part(&out[..], told.at, at));
-    keep(&out[..], year, at, writing)
+    keep(rt, err, &out[..], year, at, writing)
 }
 
 // Where the line that begins at a place ends: at its newline, or where the text does.
@@ -181,7 +194,7 @@ fn line_end(text: &[u8], start: usize) -> usize {
 }
 
 // Where the reading of a text stands: what it has told, the lines read, and where they end.
-#[derive(Drop)]
+#[derive(Clone, Copy)]
 struct Reading {
     told: Told,
     line: u64,
@@ -189,7 +202,15 @@ struct Reading {
 }
 
 // The whole lines of what has arrived.
-fn take_lines(name: &[u8], begun: Reading, text: &[u8], writing: bool, out: &mut [u8]) -> Reading {
+fn take_lines(
+    rt: &impl Print,
+    err: &impl Print,
+    name: &[u8],
+    begun: Reading,
+    text: &[u8],
+    writing: bool,
+    out: &mut [u8],
+) -> Reading {
     let mut told = begun.told;
     let mut line = begun.line;
     let mut stop = 0;
@@ -200,7 +221,16 @@ fn take_lines(name: &[u8], begun: Reading, text: &[u8], writing: bool, out: &mut
             return Reading { told, line, stop };
         }
         line = next(line);
-        told = take_line(name, line, wire::part(text, stop, end), told, writing, out);
+        told = take_line(
+            rt,
+            err,
+            name,
+            line,
+            wire::part(text, stop, end),
+            told,
+            writing,
+            out,
+        );
         if told.wrong {
             return Reading { told, line, stop };
         }
@@ -221,15 +251,32 @@ fn take_lines(name: &[u8], begun: Reading, text: &[u8], writing: bool, out: &mut
 // ---- the text
 
 // The last line, which has no newline, and the bytes that still wait. Whether the text is wrong or the book cannot be written.
-fn take_last(name: &[u8], reading: Reading, text: &[u8], writing: bool, out: &mut [u8]) -> bool {
+fn take_last(
+    rt: &impl Print,
+    err: &impl Print,
+    name: &[u8],
+    reading: Reading,
+    text: &[u8],
+    writing: bool,
+    out: &mut [u8],
+) -> bool {
     if text.len() == 0 {
-        return write_out(&out[..], reading.told.at);
+        return write_out(rt, err, &out[..], reading.told.at);
     }
-    let told = take_line(name, next(reading.line), text, reading.told, writing, out);
+    let told = take_line(
+        rt,
+        err,
+        name,
+        next(reading.line),
+        text,
+        reading.told,
+        writing,
+        out,
+    );
     if told.wrong {
         return true;
     }
-    write_out(&out[..], told.at)
+    write_out(rt, err, &out[..], told.at)
 }
 
 // Where the reading of a text stands after a piece of it: the bytes of a line that is not whole yet, whether the reading has ended, and whether the text is
@@ -253,6 +300,8 @@ fn ended(reading: Reading, wrong: bool) -> Piece {
 
 // What has arrived behind the bytes held at the front of the buffer: its whole lines are taken, and the rest is held.
 fn take_arrived(
+    rt: &impl Print,
+    err: &impl Print,
     name: &[u8],
     begun: Reading,
     buffer: &mut [u8],
@@ -260,7 +309,15 @@ fn take_arrived(
     writing: bool,
     out: &mut [u8],
 ) -> Piece {
-    let reading = take_lines(name, begun, wire::part(&buffer[..], 0, count), writing, out);
+    let reading = take_lines(
+        rt,
+        err,
+        name,
+        begun,
+        wire::part(&buffer[..], 0, count),
+        writing,
+        out,
+    );
     if reading.told.wrong {
         return ended(reading, true);
     }
@@ -278,7 +335,9 @@ fn take_arrived(
 
 // One piece more of a text.
 fn take_piece(
-    fd: i32,
+    rt: &impl Print,
+    err: &impl Print,
+    reader: &mut impl io::Read,
     name: &[u8],
     reading: Reading,
     buffer: &mut [u8],
@@ -287,17 +346,19 @@ fn take_piece(
     out: &mut [u8],
 ) -> Piece {
     if buffer.len() <= held {
-        tell_where(name, next(reading.line), 65536);
-        tell(b"expected a line of at most 65535 bytes\n");
+        tell_where(err, name, next(reading.line), 65536);
+        tell(err, b"expected a line of at most 65535 bytes\n");
         return ended(reading, true);
     }
-    let filled = refill::read_behind(fd, buffer, held);
+    let filled = refill::read_behind(reader, buffer, held);
     if filled.failed {
-        complain(name, b" cannot be read\n");
+        complain(err, name, b" cannot be read\n");
         return ended(reading, true);
     }
     if filled.ended {
         let wrong = take_last(
+            rt,
+            err,
             name,
             reading,
             wire::part(&buffer[..], 0, held),
@@ -306,7 +367,7 @@ fn take_piece(
         );
         return ended(reading, wrong);
     }
-    take_arrived(name, reading, buffer, filled.count, writing, out)
+    take_arrived(rt, err, name, reading, buffer, filled.count, writing, out)
 }
 
 // Two numbers added, the second in the small range that a piece has.
@@ -325,7 +386,15 @@ struct Outcome {
 }
 
 // Reads a text to its end.
-fn read_text(fd: i32, name: &[u8], buffer: &mut [u8], writing: bool, out: &mut [u8]) -> Outcome {
+fn read_text(
+    rt: &impl Print,
+    err: &impl Print,
+    reader: &mut impl io::Read,
+    name: &[u8],
+    buffer: &mut [u8],
+    writing: bool,
+    out: &mut [u8],
+) -> Outcome {
     let mut reading = Reading {
         told: Told {
             year: 0,
@@ -339,7 +408,7 @@ fn read_text(fd: i32, name: &[u8], buffer: &mut [u8], writing: bool, out: &mut [
     let mut size: u64 = 0;
     let mut pieces: u64 = 0;
     while pieces < MOST_PIECES {
-        let piece = take_piece(fd, name, reading, buffer, held, writing, out);
+        let piece = take_piece(rt, err, reader, name, reading, buffer, held, writing, out);
         if piece.ended {
             return Outcome {
                 wrong: piece.wrong,
@@ -354,45 +423,62 @@ fn read_text(fd: i32, name: &[u8], buffer: &mut [u8], writing: bool, out: &mut [
     Outcome { wrong: true, size }
 }
 
-// Opens a text and reads it.
-fn read_named(name: &[u8], writing: bool) -> Outcome {
-    let fd = os::open_read(name);
-    if fd < 0 {
-        complain(name, b" cannot be opened\n");
-        return Outcome {
-            wrong: true,
-            size: 0,
-        };
-    }
-    let mut buffer = io::large_buffer();
-    let mut out = io::large_buffer();
-    let outcome = read_text(fd, name, &mut buffer, writing, &mut out);
-    libc::close(fd);
-    outcome
+// Reads a text that was opened.
+fn read_opened(
+    rt: &impl Print,
+    err: &impl Print,
+    reader: &mut impl io::Read,
+    name: &[u8],
+    writing: bool,
+) -> Outcome {
+    let mut buffer = [0u8; 65536];
+    let mut out = [0u8; 65536];
+    read_text(rt, err, reader, name, &mut buffer, writing, &mut out)
 }
 
-fn main() {
-    let mut name = io::buffer();
-    let n = os::arg(1, &mut name);
-    if os::errno() != 0 {
-        complain(
-            b"the name of one text",
-            b" is needed: book_write TEXT >BOOK\n",
-        );
-        return;
+// Opens a text and reads it. A name that is no UTF-8 names no text.
+fn read_named(rt: &(impl Print + Files), err: &impl Print, name: &[u8], writing: bool) -> Outcome {
+    if let Ok(path) = str::from_utf8(name) {
+        if let Ok(file) = File::open(rt, path) {
+            let mut file = file;
+            return read_opened(rt, err, &mut file, name, writing);
+        }
     }
-    let first = read_named(&name[..n], false);
+    complain(err, name, b" cannot be opened\n");
+    Outcome {
+        wrong: true,
+        size: 0,
+    }
+}
+
+// The text twice: at first nothing is written.
+fn write_book(rt: &(impl Print + Files), err: &impl Print, name: &[u8]) {
+    let first = read_named(rt, err, name, false);
     if first.wrong {
         return;
     }
-    let second = read_named(&name[..n], true);
+    let second = read_named(rt, err, name, true);
     if second.wrong {
         return;
     }
     if first.size != second.size {
         complain(
-            &name[..n],
+            err,
+            name,
             b" was not the same when it was read again: it must be a file that nobody changes\n",
         );
+    }
+}
+
+fn main(rt: HostRuntime) {
+    let mut name = [0u8; 4096];
+    let err = rt.stderr();
+    match rt.arg(1, &mut name) {
+        Ok(n) => write_book(&rt, &err, &name[..n]),
+        Err(_) => complain(
+            &err,
+            b"the name of one text",
+            b" is needed: book_write TEXT >BOOK\n",
+        ),
     }
 }

@@ -28,24 +28,24 @@
 //   NAME:+ LINE                 the same, and the printed line goes on with the next one's
 //   -- WORDS                    a heading, printed as it is
 // A line that begins with # and a line of no bytes are passed over. A line that is none of these is printed.
+#![tactic(auto)]
+
 ghost use Rattle.std.specs.Prelude.{◌≡◌, min, ◌<◌, length};
 
 use annex::{Customers, Figures, HalfMinutes};
 use desk_rules::Served;
 use fields::Head;
 use ledger::{Cell, Ledger};
-use libc::{STDIN_FILENO, STDOUT_FILENO};
 use slot::Slot;
 
 // ---- what is printed
 
-fn word(text: &[u8]) {
-    io::write_all(STDOUT_FILENO, text);
+fn word(out: &impl Print, text: &[u8]) {
+    let _ = out.write_all(text);
 }
 
-fn number(n: u64) {
-    word(b" ");
-    io::print_decimal(STDOUT_FILENO, n);
+fn number(out: &impl Print, n: u64) {
+    let _ = print!(out; " {n}");
 }
 
 // ---- numbers of a line
@@ -170,7 +170,7 @@ fn first_of(map: &mut [u8], n: usize) -> &mut [u8] {
 }
 
 // What is lent: the slots and how many of them are the desk, the ledger, the map and how many bytes of it are lent; and the last answer.
-#[derive(Drop)]
+#[derive(Clone, Copy)]
 struct Bench {
     slots: [Slot; 33],
     desk: u64,
@@ -339,21 +339,21 @@ fn put_line(out: &mut [u8], line: &[u8], word: u16, v: [u64; 16]) -> usize {
 
 // ---- what is looked at
 
-fn three(a: u64, b: u64, c: u64) {
-    number(a);
-    number(b);
-    number(c);
+fn three(out: &impl Print, a: u64, b: u64, c: u64) {
+    number(out, a);
+    number(out, b);
+    number(out, c);
 }
 
-fn print_slot(s: Slot) {
+fn print_slot(out: &impl Print, s: Slot) {
     let head = s.head;
     let f = s.figures;
     let c = f.customers;
     let h = f.halves;
-    three(head.number as u64, head.t0 as u64, s.last as u64);
-    number(s.steps as u64);
-    three(c[0].0, c[1].0, c[2].0);
-    three(h[0].0, h[1].0, h[2].0);
+    three(out, head.number as u64, head.t0 as u64, s.last as u64);
+    number(out, s.steps as u64);
+    three(out, c[0].0, c[1].0, c[2].0);
+    three(out, h[0].0, h[1].0, h[2].0);
 }
 
 // The cells of a type's row; those of the first where the type is not listed.
@@ -364,33 +364,33 @@ fn cells_of(l: Ledger, typ: u64) -> [Cell; codes::LEVELS] {
     row.levels
 }
 
-fn print_row(l: Ledger, typ: u64) {
+fn print_row(out: &impl Print, l: Ledger, typ: u64) {
     let c = cells_of(l, typ);
-    number(l.events as u64);
-    number(l.short as u64);
-    three(c[0].customers.0, c[1].customers.0, c[2].customers.0);
-    three(c[0].halves.0, c[1].halves.0, c[2].halves.0);
+    number(out, l.events as u64);
+    number(out, l.short as u64);
+    three(out, c[0].customers.0, c[1].customers.0, c[2].customers.0);
+    three(out, c[0].halves.0, c[1].halves.0, c[2].halves.0);
 }
 
 // Customers or half minutes of NN alone.
-fn print_first(l: Ledger, typ: u64, halves: bool) {
+fn print_first(out: &impl Print, l: Ledger, typ: u64, halves: bool) {
     let c = cells_of(l, typ);
     if halves {
-        number(c[0].halves.0);
+        number(out, c[0].halves.0);
     } else {
-        number(c[0].customers.0);
+        number(out, c[0].customers.0);
     }
 }
 
 // The slot and the map's byte at a place, the ledger and the answer: what a line with a name prints is one of them.
-fn print(word: u16, at: u64, slot: Slot, used: u8, l: Ledger, answer: u8) {
+fn print(out: &impl Print, word: u16, at: u64, slot: Slot, used: u8, l: Ledger, answer: u8) {
     match word {
-        LOOK => print_slot(slot),
-        BYTE => number(used as u64),
-        ROW => print_row(l, at),
-        CUSTOMERS => print_first(l, at, false),
-        HALVES => print_first(l, at, true),
-        _ => number(answer as u64),
+        LOOK => print_slot(out, slot),
+        BYTE => number(out, used as u64),
+        ROW => print_row(out, l, at),
+        CUSTOMERS => print_first(out, l, at, false),
+        HALVES => print_first(out, l, at, true),
+        _ => number(out, answer as u64),
     }
 }
 
@@ -454,18 +454,18 @@ fn is_right(line: &[u8], word: u16, count: usize) -> bool {
 }
 
 // The numbers of a line. A line that is none of the text's is printed.
-fn values_of(line: &[u8]) -> [u64; 16] {
+fn values_of(out: &impl Print, line: &[u8]) -> [u64; 16] {
     let n = numbers_in(line);
     if !is_right(line, word_of(line), n.count) {
-        word(b" no such line: ");
-        heading(line);
+        word(out, b" no such line: ");
+        heading(out, line);
     }
     n.values
 }
 
 // What a line does.
 fn sent(b: Bench, line: &[u8], word: u16, v: [u64; 16]) -> Bench {
-    let mut out = io::buffer();
+    let mut out = [0u8; 4096];
     let size = put_line(&mut out, line, word, v);
     let bytes = wire::part(&out, 0, size);
     match word {
@@ -479,29 +479,29 @@ fn sent(b: Bench, line: &[u8], word: u16, v: [u64; 16]) -> Bench {
     }
 }
 
-fn print_of(b: Bench, word: u16, at: u64) {
+fn print_of(out: &impl Print, b: Bench, word: u16, at: u64) {
     let slots = b.slots;
     let map = b.map;
     let l = b.ledger;
     let i = (at % 33) as usize;
     let k = (at % 8193) as usize;
-    print(word, at, slots[i], map[k], l, b.answer);
+    print(out, word, at, slots[i], map[k], l, b.answer);
 }
 
 // The end of a printed line, where it does not go on.
-fn print_end(sort: u8) {
+fn print_end(out: &impl Print, sort: u8) {
     if sort != b'+' {
-        word(b"\n");
+        word(out, b"\n");
     }
 }
 
 // A line with a name.
-fn named(b: Bench, line: &[u8], sort: u8) -> Bench {
+fn named(out: &impl Print, b: Bench, line: &[u8], sort: u8) -> Bench {
     let word = word_of(line);
-    let v = values_of(line);
+    let v = values_of(out, line);
     let next = sent(b, line, word, v);
-    print_of(next, word, v[1]);
-    print_end(sort);
+    print_of(out, next, word, v[1]);
+    print_end(out, sort);
     next
 }
 
@@ -517,17 +517,17 @@ fn sort_of(line: &[u8], colon: usize) -> u8 {
     wire::byte_at(wire::part(line, colon, line.len()), 1)
 }
 
-fn print_name(line: &[u8], sort: u8, colon: usize) {
+fn print_name(out: &impl Print, line: &[u8], sort: u8, colon: usize) {
     match sort {
-        b'-' => heading(line),
-        b' ' | b'=' | b'+' => word(wire::part(line, 0, colon)),
-        _ => word(b""),
+        b'-' => heading(out, line),
+        b' ' | b'=' | b'+' => word(out, wire::part(line, 0, colon)),
+        _ => word(out, b""),
     }
 }
 
-fn heading(line: &[u8]) {
-    word(line);
-    word(b"\n");
+fn heading(out: &impl Print, line: &[u8]) {
+    word(out, line);
+    word(out, b"\n");
 }
 
 // A line without its name, from the colon on.
@@ -538,19 +538,19 @@ fn body_of(rest: &[u8], sort: u8) -> &[u8] {
     }
 }
 
-fn take_line(b: Bench, line: &[u8]) -> Bench {
+fn take_line(out: &impl Print, b: Bench, line: &[u8]) -> Bench {
     let colon = place_of(line, b':');
     let sort = sort_of(line, colon);
     let rest = wire::part(line, colon, line.len());
-    print_name(line, sort, colon);
+    print_name(out, line, sort, colon);
     match sort {
         b'#' | b'-' => b,
         b' ' => {
-            named(b, body_of(rest, sort), sort);
+            named(out, b, body_of(rest, sort), sort);
             b
         }
-        b'=' | b'+' => named(b, body_of(rest, sort), sort),
-        _ => sent(b, line, word_of(line), values_of(line)),
+        b'=' | b'+' => named(out, b, body_of(rest, sort), sort),
+        _ => sent(b, line, word_of(line), values_of(out, line)),
     }
 }
 
@@ -570,18 +570,18 @@ fn past_line(text: &[u8], start: usize) -> usize
 }
 
 // Each line ends with a newline.
-fn run(text: &[u8]) {
+fn run(out: &impl Print, text: &[u8]) {
     let mut b = empty();
     let mut start: usize = 0;
     while start < text.len() {
         let past = past_line(text, start);
-        b = take_line(b, wire::part(text, start, past - 1));
+        b = take_line(out, b, wire::part(text, start, past - 1));
         start = past;
     }
 }
 
-fn main() {
-    let mut text = io::large_buffer();
-    let n = io::read_full(STDIN_FILENO, &mut text);
-    run(&text[..n]);
+fn main(rt: HostRuntime) {
+    let mut text = [0u8; 65536];
+    let n = refill::read_full(&mut rt.stdin(), &mut text);
+    run(&rt, &text[..n]);
 }

@@ -29,6 +29,8 @@
 //   NAME:= LINE                 what the line does stays done, as without a name
 //   -- WORDS                    a heading, printed as it is
 // A line that begins with # and a line of no bytes are passed over. A line that is none of these is printed.
+#![tactic(auto)]
+
 ghost use Rattle.std.specs.Prelude.{◌<◌, length};
 
 use decimal::Shown;
@@ -37,43 +39,41 @@ use element_rates::Figure;
 use element_row::Row;
 use element_table::{Filed, Table};
 use ledger::Ledger;
-use libc::{STDIN_FILENO, STDOUT_FILENO};
 
 // ---- what is printed
 
-fn word(text: &[u8]) {
-    io::write_all(STDOUT_FILENO, text);
+fn word(out: &impl Print, text: &[u8]) {
+    let _ = out.write_all(text);
 }
 
-fn number(n: u64) {
-    word(b" ");
-    io::print_decimal(STDOUT_FILENO, n);
+fn number(out: &impl Print, n: u64) {
+    let _ = print!(out; " {n}");
 }
 
-fn four(a: u64, b: u64, c: u64, d: u64) {
-    number(a);
-    number(b);
-    number(c);
-    number(d);
+fn four(out: &impl Print, a: u64, b: u64, c: u64, d: u64) {
+    number(out, a);
+    number(out, b);
+    number(out, c);
+    number(out, d);
 }
 
-fn three(a: u64, b: u64, c: u64) {
-    number(a);
-    number(b);
-    number(c);
+fn three(out: &impl Print, a: u64, b: u64, c: u64) {
+    number(out, a);
+    number(out, b);
+    number(out, c);
 }
 
-fn print_exactly(f: Figure) {
+fn print_exactly(out: &impl Print, f: Figure) {
     match f {
-        Figure::Is(x) => three(0, x.top, x.bottom),
-        Figure::Refused(n) => number(n as u64),
+        Figure::Is(x) => three(out, 0, x.top, x.bottom),
+        Figure::Refused(n) => number(out, n as u64),
     }
 }
 
-fn print_shown(s: Shown) {
+fn print_shown(out: &impl Print, s: Shown) {
     match s {
-        Shown::Is(d) => three(0, d.whole, d.digits),
-        Shown::Refused(n) => number(n as u64),
+        Shown::Is(d) => three(out, 0, d.whole, d.digits),
+        Shown::Refused(n) => number(out, n as u64),
     }
 }
 
@@ -262,10 +262,11 @@ fn number_of(f: Figure) -> u64 {
     }
 }
 
-fn print_answers(t: Table) {
+fn print_answers(out: &impl Print, t: Table) {
     let filed = t.begin_file();
     let taken = t.take(b"\x0e\0\x04\0\x01\0\0\0\0\0\x01\0\0\0");
     four(
+        out,
         filed.answer as u64,
         taken.answer as u64,
         number_of(element_rates::rate_of(t, 15)),
@@ -273,18 +274,19 @@ fn print_answers(t: Table) {
     );
 }
 
-fn print_begun(f: Filed) {
+fn print_begun(out: &impl Print, f: Filed) {
     let t = f.table;
     let file = t.begin_file();
-    number(f.answer as u64);
-    number(file.answer as u64);
+    number(out, f.answer as u64);
+    number(out, file.answer as u64);
 }
 
-fn print_known(t: Table, at: u64) {
+fn print_known(out: &impl Print, t: Table, at: u64) {
     let rows = t.rows;
     let i = (at % 62) as usize;
     let row = rows[i];
     four(
+        out,
         row.outages as u64,
         row.minutes,
         row.stock as u64,
@@ -292,7 +294,7 @@ fn print_known(t: Table, at: u64) {
     );
 }
 
-fn print_piece(table: Table, refused: u64, filled: u64) {
+fn print_piece(out: &impl Print, table: Table, refused: u64, filled: u64) {
     let mut buffer = [4, 0, 9, 0, 4, 0, 9, 0, 3, 0];
     let flow = Inflow {
         table,
@@ -304,6 +306,7 @@ fn print_piece(table: Table, refused: u64, filled: u64) {
     let next = flowed.flow;
     let read = element_pieces::finish(next);
     four(
+        out,
         flowed.answer as u64,
         next.refused,
         read.answer as u64,
@@ -311,12 +314,12 @@ fn print_piece(table: Table, refused: u64, filled: u64) {
     );
 }
 
-fn print_figure(t: Table, word: u16, v: [u64; 16]) {
+fn print_figure(out: &impl Print, t: Table, word: u16, v: [u64; 16]) {
     match word {
-        RATE => print_exactly(element_rates::rate_of(t, code(v[1]))),
-        MEAN => print_exactly(element_rates::mean_of(t, code(v[1]))),
-        OFTEN => print_shown(element_rates::shown_rate(t, code(v[1]), byte(v[2]))),
-        _ => print_shown(element_rates::shown_mean(t, code(v[1]), byte(v[2]))),
+        RATE => print_exactly(out, element_rates::rate_of(t, code(v[1]))),
+        MEAN => print_exactly(out, element_rates::mean_of(t, code(v[1]))),
+        OFTEN => print_shown(out, element_rates::shown_rate(t, code(v[1]), byte(v[2]))),
+        _ => print_shown(out, element_rates::shown_mean(t, code(v[1]), byte(v[2]))),
     }
 }
 
@@ -371,18 +374,18 @@ fn is_right(line: &[u8], word: u16, count: usize) -> bool {
 }
 
 // The numbers of a line. A line that is none of the text's is printed.
-fn values_of(line: &[u8]) -> [u64; 16] {
+fn values_of(out: &impl Print, line: &[u8]) -> [u64; 16] {
     let n = numbers_in(line);
     if !is_right(line, wire::u16_at(line, 0), n.count) {
-        word(b" no such line: ");
-        heading(line);
+        word(out, b" no such line: ");
+        heading(out, line);
     }
     n.values
 }
 
 // What a line does.
 fn sent(f: Filed, line: &[u8], word: u16, v: [u64; 16]) -> Filed {
-    let mut out = io::buffer();
+    let mut out = [0u8; 4096];
     let size = put_line(&mut out, line, word, v);
     let bytes = wire::part(&out, 0, size);
     match word {
@@ -398,25 +401,25 @@ fn sent(f: Filed, line: &[u8], word: u16, v: [u64; 16]) -> Filed {
 }
 
 // What a line with a name prints.
-fn print(f: Filed, word: u16, v: [u64; 16]) {
+fn print(out: &impl Print, f: Filed, word: u16, v: [u64; 16]) {
     let t = f.table;
     match word {
-        TABLE | UNSEEN | ROW => print_answers(t),
-        BEGIN => print_begun(f),
-        KNOWN => print_known(t, v[1]),
-        PIECE => print_piece(t, v[1], v[2]),
-        RATE | MEAN | OFTEN | HOURS => print_figure(t, word, v),
-        _ => number(f.answer as u64),
+        TABLE | UNSEEN | ROW => print_answers(out, t),
+        BEGIN => print_begun(out, f),
+        KNOWN => print_known(out, t, v[1]),
+        PIECE => print_piece(out, t, v[1], v[2]),
+        RATE | MEAN | OFTEN | HOURS => print_figure(out, t, word, v),
+        _ => number(out, f.answer as u64),
     }
 }
 
 // A line with a name.
-fn named(f: Filed, line: &[u8]) -> Filed {
+fn named(out: &impl Print, f: Filed, line: &[u8]) -> Filed {
     let letters = wire::u16_at(line, 0);
-    let v = values_of(line);
+    let v = values_of(out, line);
     let next = sent(f, line, letters, v);
-    print(next, letters, v);
-    word(b"\n");
+    print(out, next, letters, v);
+    word(out, b"\n");
     next
 }
 
@@ -432,17 +435,17 @@ fn sort_of(line: &[u8], colon: usize) -> u8 {
     wire::byte_at(wire::part(line, colon, line.len()), 1)
 }
 
-fn print_name(line: &[u8], sort: u8, colon: usize) {
+fn print_name(out: &impl Print, line: &[u8], sort: u8, colon: usize) {
     match sort {
-        b'-' => heading(line),
-        b' ' | b'=' => word(wire::part(line, 0, colon)),
-        _ => word(b""),
+        b'-' => heading(out, line),
+        b' ' | b'=' => word(out, wire::part(line, 0, colon)),
+        _ => word(out, b""),
     }
 }
 
-fn heading(line: &[u8]) {
-    word(line);
-    word(b"\n");
+fn heading(out: &impl Print, line: &[u8]) {
+    word(out, line);
+    word(out, b"\n");
 }
 
 // A line without its name, from the colon on.
@@ -453,19 +456,19 @@ fn body_of(rest: &[u8], sort: u8) -> &[u8] {
     }
 }
 
-fn take_line(f: Filed, line: &[u8]) -> Filed {
+fn take_line(out: &impl Print, f: Filed, line: &[u8]) -> Filed {
     let colon = last_of(line, b':');
     let sort = sort_of(line, colon);
     let rest = wire::part(line, colon, line.len());
-    print_name(line, sort, colon);
+    print_name(out, line, sort, colon);
     match sort {
         b'#' | b'-' => f,
         b' ' => {
-            named(f, body_of(rest, sort));
+            named(out, f, body_of(rest, sort));
             f
         }
-        b'=' => named(f, body_of(rest, sort)),
-        _ => sent(f, line, wire::u16_at(line, 0), values_of(line)),
+        b'=' => named(out, f, body_of(rest, sort)),
+        _ => sent(f, line, wire::u16_at(line, 0), values_of(out, line)),
     }
 }
 
@@ -485,18 +488,18 @@ fn past_line(text: &[u8], start: usize) -> usize
 }
 
 // Each line ends with a newline.
-fn run(text: &[u8]) {
+fn run(out: &impl Print, text: &[u8]) {
     let mut f = Table::begin(5);
     let mut start: usize = 0;
     while start < text.len() {
         let past = past_line(text, start);
-        f = take_line(f, wire::part(text, start, past - 1));
+        f = take_line(out, f, wire::part(text, start, past - 1));
         start = past;
     }
 }
 
-fn main() {
-    let mut text = io::large_buffer();
-    let n = io::read_full(STDIN_FILENO, &mut text);
-    run(&text[..n]);
+fn main(rt: HostRuntime) {
+    let mut text = [0u8; 65536];
+    let n = refill::read_full(&mut rt.stdin(), &mut text);
+    run(&rt, &text[..n]);
 }

@@ -1,4 +1,6 @@
-// A yearly element file read to its end from a descriptor, in pieces, into a table.
+// A yearly element file read to its end from a reader, in pieces, into a table.
+#![tactic(auto)]
+
 ghost use Rattle.std.specs.Prelude.{ℕ, ◌+◌, ◌≤◌, ◌≡◌, List, length};
 ghost use Rattle.element_file.specs.Yearly.{FileState, take_record, file_of};
 ghost use Rattle.refill.specs.Arrive.{room, most_turns, Arrived};
@@ -7,6 +9,7 @@ ghost use Rattle.element_pieces.specs.Inflow.{reading_of};
 use element_file::Reading;
 use element_pieces::Inflow;
 use element_table::Table;
+use std::io;
 
 // More turns than any file has pieces: 2^40. Past them the reading has failed.
 const MOST_TURNS: u64 = 1099511627776;
@@ -20,7 +23,7 @@ struct Turn {
 }
 
 // One piece more, where a record can still follow.
-fn take_next(fd: i32, flow: Inflow, buffer: &mut [u8]) -> Turn
+fn take_next<R: io::Read>(reader: &mut R, flow: Inflow, buffer: &mut [u8]) -> Turn
     requires { length buffer.old ≤ room }
     ensures { (st : FileState) (turns : ℕ) → Arrived take_record st (reading_of flow) buffer.old turns → Arrived take_record st (reading_of result.flow) buffer.new (turns + 1) }
 {
@@ -31,7 +34,7 @@ fn take_next(fd: i32, flow: Inflow, buffer: &mut [u8]) -> Turn
             failed: false,
         };
     }
-    let filled = refill::read_behind(fd, buffer, flow.held);
+    let filled = refill::read_behind(reader, buffer, flow.held);
     if filled.ended {
         return Turn {
             flow,
@@ -50,14 +53,14 @@ fn take_next(fd: i32, flow: Inflow, buffer: &mut [u8]) -> Turn
 }
 
 // Turn after turn, to the end of the input or to a length below 4, after which nothing can follow.
-fn take_all(fd: i32, begun: Inflow, buffer: &mut [u8]) -> Turn
+fn take_all<R: io::Read>(reader: &mut R, begun: Inflow, buffer: &mut [u8]) -> Turn
     requires { length buffer.old ≤ room }
     ensures { (st : FileState) → Arrived take_record st (reading_of begun) buffer.old 0 → Arrived take_record st (reading_of result.flow) buffer.new most_turns }
 {
     let mut flow = begun;
     let mut turns: u64 = 0;
     while turns < MOST_TURNS {
-        let turn = take_next(fd, flow, buffer);
+        let turn = take_next(reader, flow, buffer);
         if turn.ended {
             return turn;
         }
@@ -78,8 +81,8 @@ pub struct Input {
     pub failed: bool,
 }
 
-// Reads a file to its end into a table. Some bytes came, which the system decides, and what is answered is what `element_file` answers to them in one call.
-pub fn read_file(fd: i32, table: Table) -> Input
+// Reads a file to its end into a table. Some bytes came, which the reader decides, and what is answered is what `element_file` answers to them in one call.
+pub fn read_file<R: io::Read>(reader: &mut R, table: Table) -> Input
     ensures { (bytes : List ℕ) × (result.read ≡ file_of table bytes) }
 {
     let begun = element_pieces::begin(table);
@@ -94,8 +97,8 @@ pub fn read_file(fd: i32, table: Table) -> Input
             failed: true,
         };
     }
-    let mut buffer = io::large_buffer();
-    let last = take_all(fd, begun.flow, &mut buffer);
+    let mut buffer = [0u8; 65536];
+    let last = take_all(reader, begun.flow, &mut buffer);
     Input {
         read: element_pieces::finish(last.flow),
         failed: last.failed,

@@ -1,7 +1,13 @@
 // The element sheet: an observation period in years and the names of yearly element files as arguments; the sheet on standard output. The name - means
 // standard input, and so does no name at all. Where a file cannot be opened or read to its end there is no sheet: half of the data must not look like all of it.
+#![tactic(auto)]
+
 use element_table::Table;
-use libc::{STDERR_FILENO, STDIN_FILENO, STDOUT_FILENO};
+use std::env::FillError;
+use std::fs::File;
+use std::io;
+use std::io::Input;
+use std::rt::{Env, Files};
 use text::Text;
 
 // As many files as one sheet is made of: their refused records are held until the sheet is printed.
@@ -81,10 +87,10 @@ const OFFSETS: [usize; 63] = [
 
 // ---- what goes wrong: one line on standard error
 
-fn complain(what: &[u8], why: &[u8]) {
-    io::write_all(STDERR_FILENO, b"element_sheet: ");
-    io::write_all(STDERR_FILENO, what);
-    io::write_all(STDERR_FILENO, why);
+fn complain(err: &impl Print, what: &[u8], why: &[u8]) {
+    let _ = err.write_all(b"element_sheet: ");
+    let _ = err.write_all(what);
+    let _ = err.write_all(why);
 }
 
 // ---- a file
@@ -97,8 +103,8 @@ struct Taken {
     failed: bool,
 }
 
-fn take_open(fd: i32, table: Table) -> Taken {
-    let input = element_input::read_file(fd, table);
+fn take_open(reader: &mut impl io::Read, table: Table) -> Taken {
+    let input = element_input::read_file(reader, table);
     let read = input.read;
     let next = read.table;
     Taken {
@@ -108,30 +114,38 @@ fn take_open(fd: i32, table: Table) -> Taken {
     }
 }
 
-fn take_named(name: &[u8], table: Table) -> Taken {
-    let fd = os::open_read(name);
-    if fd < 0 {
-        complain(name, b" cannot be opened\n");
-        return Taken {
-            table,
-            refused: 0,
-            failed: true,
-        };
+// A file that cannot be opened.
+fn not_opened(err: &impl Print, name: &[u8], table: Table) -> Taken {
+    complain(err, name, b" cannot be opened\n");
+    Taken {
+        table,
+        refused: 0,
+        failed: true,
     }
-    let taken = take_open(fd, table);
-    libc::close(fd);
+}
+
+// A file that was opened.
+fn take_opened(err: &impl Print, reader: &mut impl io::Read, name: &[u8], table: Table) -> Taken {
+    let taken = take_open(reader, table);
     if taken.failed {
-        complain(name, b" cannot be read\n");
+        complain(err, name, b" cannot be read\n");
     }
     taken
 }
 
-fn take_standard_input(table: Table) -> Taken {
-    let taken = take_open(STDIN_FILENO, table);
-    if taken.failed {
-        complain(b"standard input", b" cannot be read\n");
+// A name that is no UTF-8 names no file.
+fn take_named(rt: &impl Files, err: &impl Print, name: &[u8], table: Table) -> Taken {
+    if let Ok(path) = str::from_utf8(name) {
+        if let Ok(file) = File::open(rt, path) {
+            let mut file = file;
+            return take_opened(err, &mut file, name, table);
+        }
     }
-    taken
+    not_opened(err, name, table)
+}
+
+fn take_standard_input(rt: &impl Input, err: &impl Print, table: Table) -> Taken {
+    take_opened(err, &mut rt.reader(), b"standard input", table)
 }
 
 fn is_dash(name: &[u8]) -> bool {
@@ -142,21 +156,25 @@ fn is_dash(name: &[u8]) -> bool {
 }
 
 // The file that an argument names, or standard input where it is -.
-fn take_argument(i: usize, table: Table) -> Taken {
-    let mut name = io::buffer();
-    let n = os::arg(i, &mut name);
-    if os::errno() != 0 {
-        complain(b"a file's name", b" is too long\n");
-        return Taken {
-            table,
-            refused: 0,
-            failed: true,
-        };
+fn take_argument(
+    rt: &(impl Env + Files + Input),
+    err: &impl Print,
+    i: usize,
+    table: Table,
+) -> Taken {
+    let mut name = [0u8; 4096];
+    match rt.arg(i, &mut name) {
+        Ok(n) if is_dash(&name[..n]) => take_standard_input(rt, err, table),
+        Ok(n) => take_named(rt, err, &name[..n], table),
+        Err(_) => {
+            complain(err, b"a file's name", b" is too long\n");
+            Taken {
+                table,
+                refused: 0,
+                failed: true,
+            }
+        }
     }
-    if is_dash(&name[..n]) {
-        return take_standard_input(table);
-    }
-    take_named(&name[..n], table)
 }
 
 // ---- all files
@@ -171,26 +189,43 @@ struct Whole {
 }
 
 // One file more after so many.
-fn take_next(count: usize, arg: usize, table: Table) -> Taken {
+fn take_next(
+    rt: &(impl Env + Files + Input),
+    err: &impl Print,
+    count: usize,
+    arg: usize,
+    table: Table,
+) -> Taken {
     if MOST_FILES <= count {
-        complain(b"more than 1,024 files", b" are named\n");
+        complain(err, b"more than 1,024 files", b" are named\n");
         return Taken {
             table,
             refused: 0,
             failed: true,
         };
     }
-    take_argument(arg, table)
+    take_argument(rt, err, arg, table)
+}
+
+// Whether there is such an argument, of any length.
+fn has_argument(rt: &impl Env, i: usize) -> bool {
+    let mut first = [0u8; 1];
+    match rt.arg(i, &mut first) {
+        Err(FillError::NotPresent) => false,
+        _ => true,
+    }
 }
 
 // The files that the arguments after the period name, up to one that cannot be read.
-fn take_arguments(args: usize, table: Table) -> Whole {
+fn take_arguments(rt: &(impl Env + Files + Input), err: &impl Print, table: Table) -> Whole {
     let mut t = table;
     let mut refused = [0u64; 1024];
     let mut count: usize = 0;
-    let mut arg: usize = 2;
-    while arg < args {
-        let taken = take_next(count, arg, t);
+    for arg in 2..MOST_FILES + 3 {
+        if !has_argument(rt, arg) {
+            break;
+        }
+        let taken = take_next(rt, err, count, arg, t);
         if taken.failed {
             return Whole {
                 table: t,
@@ -204,7 +239,6 @@ fn take_arguments(args: usize, table: Table) -> Whole {
             refused[count] = taken.refused;
             count += 1;
         }
-        arg += 1;
     }
     Whole {
         table: t,
@@ -215,8 +249,8 @@ fn take_arguments(args: usize, table: Table) -> Whole {
 }
 
 // The one file on standard input.
-fn take_input(table: Table) -> Whole {
-    let taken = take_standard_input(table);
+fn take_input(rt: &impl Input, err: &impl Print, table: Table) -> Whole {
+    let taken = take_standard_input(rt, err, table);
     let t = taken.table;
     let mut refused = [0u64; 1024];
     refused[0] = taken.refused;
@@ -228,35 +262,34 @@ fn take_input(table: Table) -> Whole {
     }
 }
 
-fn take_files(table: Table) -> Whole {
-    let args = os::arg_count();
-    if args <= 2 {
-        return take_input(table);
+fn take_files(rt: &(impl Env + Files + Input), err: &impl Print, table: Table) -> Whole {
+    if has_argument(rt, 2) {
+        return take_arguments(rt, err, table);
     }
-    take_arguments(args, table)
+    take_input(rt, err, table)
 }
 
 // ---- the sheet; each part answers whether it could be written
 
-fn print_text(text: Text) -> bool {
+fn print_text(rt: &impl Print, text: Text) -> bool {
     let bytes = text.bytes;
-    io::write_all(STDOUT_FILENO, wire::part(&bytes, 0, text.len))
+    rt.write_all(wire::part(&bytes, 0, text.len)).is_ok()
 }
 
-fn print_row(table: Table, row: usize) -> bool {
+fn print_row(rt: &impl Print, table: Table, row: usize) -> bool {
     let offsets = OFFSETS;
     if 62 <= row {
         return true;
     }
     let name = wire::part(&NAMES, offsets[row], offsets[row + 1]);
     let line = element_line::line_of(table, element_codes::code_at(row), name);
-    print_text(line.text)
+    print_text(rt, line.text)
 }
 
-fn print_rows(table: Table) -> bool {
+fn print_rows(rt: &impl Print, table: Table) -> bool {
     let mut row: usize = 0;
     while row < 62 {
-        if !print_row(table, row) {
+        if !print_row(rt, table, row) {
             return false;
         }
         row += 1;
@@ -264,17 +297,17 @@ fn print_rows(table: Table) -> bool {
     true
 }
 
-fn print_count(n: u64) -> bool {
-    io::write_all(STDOUT_FILENO, b" ") && io::print_decimal(STDOUT_FILENO, n)
+fn print_count(rt: &impl Print, n: u64) -> bool {
+    print!(rt; " {n}").is_ok()
 }
 
-fn print_counts(refused: [u64; 1024], count: usize) -> bool {
+fn print_counts(rt: &impl Print, refused: [u64; 1024], count: usize) -> bool {
     let mut i: usize = 0;
     while i < MOST_FILES {
         if count <= i {
             return true;
         }
-        if !print_count(refused[i]) {
+        if !print_count(rt, refused[i]) {
             return false;
         }
         i += 1;
@@ -283,18 +316,18 @@ fn print_counts(refused: [u64; 1024], count: usize) -> bool {
 }
 
 // The last line: the refused records of each file.
-fn print_refused(refused: [u64; 1024], count: usize) -> bool {
-    io::write_all(STDOUT_FILENO, b"refused")
-        && print_counts(refused, count)
-        && io::write_all(STDOUT_FILENO, b"\n")
+fn print_refused(rt: &impl Print, refused: [u64; 1024], count: usize) -> bool {
+    rt.write_all(b"refused").is_ok()
+        && print_counts(rt, refused, count)
+        && rt.write_all(b"\n").is_ok()
 }
 
 // The whole sheet, up to what cannot be written.
-fn print_sheet(whole: Whole) -> bool {
+fn print_sheet(rt: &impl Print, whole: Whole) -> bool {
     let refused = whole.refused;
-    print_text(element_line::heading())
-        && print_rows(whole.table)
-        && print_refused(refused, whole.count)
+    print_text(rt, element_line::heading())
+        && print_rows(rt, whole.table)
+        && print_refused(rt, refused, whole.count)
 }
 
 // ---- the period
@@ -331,35 +364,39 @@ fn number_of(bytes: &[u8]) -> Number {
 }
 
 // The first argument as a number; one that is missing or too long is none.
-fn period_argument() -> Number {
-    let mut digits = io::buffer();
-    let n = os::arg(1, &mut digits);
-    number_of(&digits[..n])
+fn period_argument(rt: &impl Env) -> Number {
+    let mut digits = [0u8; 4096];
+    match rt.arg(1, &mut digits) {
+        Ok(n) => number_of(&digits[..n]),
+        Err(_) => number_of(&[]),
+    }
 }
 
-fn complain_of_period() {
+fn complain_of_period(err: &impl Print) {
     complain(
+        err,
         b"the first word",
         b" is not an observation period: a whole number of years, 1 to 50\n",
     );
 }
 
-fn main() {
-    let period = period_argument();
+fn main(rt: HostRuntime) {
+    let err = rt.stderr();
+    let period = period_argument(&rt);
     if !period.is {
-        complain_of_period();
+        complain_of_period(&err);
         return;
     }
     let filed = Table::begin(period.value);
     if filed.answer != 0 {
-        complain_of_period();
+        complain_of_period(&err);
         return;
     }
-    let whole = take_files(filed.table);
+    let whole = take_files(&rt, &err, filed.table);
     if whole.failed {
         return;
     }
-    if !print_sheet(whole) {
-        complain(b"the sheet", b" cannot be written\n");
+    if !print_sheet(&rt, whole) {
+        complain(&err, b"the sheet", b" cannot be written\n");
     }
 }

@@ -1,8 +1,9 @@
 // The exact figures: one book on standard input, and on standard output each index as the fraction that the formula gives, in lowest terms.
+#![tactic(auto)]
+
 use codes::Set;
 use index::{Answer, Index, Level};
 use ledger::Ledger;
-use libc::{STDERR_FILENO, STDIN_FILENO, STDOUT_FILENO};
 use text::Text;
 
 // ---- figures: each function answers the text with what it says of the ledger
@@ -66,40 +67,39 @@ fn head(ledger: Ledger, refused: u64) -> Text {
 
 // ---- writing: each function answers whether all could be written
 
-fn say(t: Text) -> bool {
+fn say(out: &impl Print, t: Text) -> bool {
     let bytes = t.bytes;
-    io::write_all(STDOUT_FILENO, wire::part(&bytes, 0, t.len))
+    out.write_all(wire::part(&bytes, 0, t.len)).is_ok()
 }
 
-fn say_set(ledger: Ledger, set: Set) -> bool {
-    say(line(ledger, Level::NN, set))
-        & say(line(ledger, Level::VN, set))
-        & say(line(ledger, Level::VVN, set))
-        & say(line(ledger, Level::Network, set))
+fn say_set(out: &impl Print, ledger: Ledger, set: Set) -> bool {
+    say(out, line(ledger, Level::NN, set))
+        & say(out, line(ledger, Level::VN, set))
+        & say(out, line(ledger, Level::VVN, set))
+        & say(out, line(ledger, Level::Network, set))
 }
 
-fn say_figures(ledger: Ledger) -> bool {
+fn say_figures(out: &impl Print, ledger: Ledger) -> bool {
     let sheet = ledger.sheet;
     if !sheet.there {
         return true;
     }
-    say_set(ledger, Set::All) & say_set(ledger, Set::Std)
+    say_set(out, ledger, Set::All) & say_set(out, ledger, Set::Std)
 }
 
-fn complain(why: &[u8]) {
-    io::write_all(STDERR_FILENO, b"exact_report: ");
-    io::write_all(STDERR_FILENO, why);
+fn complain(rt: &impl Eprint, why: &str) {
+    let _ = eprintln!(rt; "exact_report: {why}");
 }
 
-fn main() {
-    let book = input::read_book(STDIN_FILENO);
+fn main(rt: HostRuntime) {
+    let book = input::read_book(&mut rt.stdin());
     if book.failed {
-        complain(b"standard input cannot be read\n");
+        complain(&rt, "standard input cannot be read");
         return;
     }
     let read = book.read;
     let ledger = read.ledger;
-    if !(say(head(ledger, read.refused)) & say_figures(ledger)) {
-        complain(b"the figures cannot be written\n");
+    if !(say(&rt, head(ledger, read.refused)) & say_figures(&rt, ledger)) {
+        complain(&rt, "the figures cannot be written");
     }
 }

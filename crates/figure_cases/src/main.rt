@@ -21,6 +21,8 @@
 //                              held, and whether the rest is dead. The buffer stays as the call leaves it
 //     end REFUSED HELD DEAD    the end of such a feed: the answer, refused records, and whether a length was broken
 // Words are told by their first letters, and numbers are found whatever stands between them. What begins as no line or case does is printed as such.
+#![tactic(auto)]
+
 use annex::{Customers, HalfMinutes};
 use book::Read;
 use book_pieces::{Fed, Feed};
@@ -29,77 +31,75 @@ use decimal::Shown;
 use fields::Sheet;
 use index::{Answer, Index, Level};
 use ledger::{Cell, Ledger, TypeRow};
-use libc::{STDIN_FILENO, STDOUT_FILENO};
 
 // ---- what is printed
 
-fn word(text: &[u8]) {
-    io::write_all(STDOUT_FILENO, text);
+fn word(out: &impl Print, text: &[u8]) {
+    let _ = out.write_all(text);
 }
 
-fn number(n: u64) {
-    word(b" ");
-    io::print_decimal(STDOUT_FILENO, n);
+fn number(out: &impl Print, n: u64) {
+    let _ = print!(out; " {n}");
 }
 
-fn one(n: u64) {
-    number(n);
-    word(b"\n");
+fn one(out: &impl Print, n: u64) {
+    number(out, n);
+    word(out, b"\n");
 }
 
-fn three(a: u64, b: u64, c: u64) {
-    number(a);
-    number(b);
-    one(c);
+fn three(out: &impl Print, a: u64, b: u64, c: u64) {
+    number(out, a);
+    number(out, b);
+    one(out, c);
 }
 
-fn print_exact(a: Answer) {
+fn print_exact(out: &impl Print, a: Answer) {
     match a {
-        Answer::Is(f) => three(0, f.top, f.bottom),
-        Answer::Refused(n) => one(n as u64),
+        Answer::Is(f) => three(out, 0, f.top, f.bottom),
+        Answer::Refused(n) => one(out, n as u64),
     }
 }
 
-fn print_shown(s: Shown) {
+fn print_shown(out: &impl Print, s: Shown) {
     match s {
-        Shown::Is(d) => three(0, d.whole, d.digits),
-        Shown::Refused(n) => one(n as u64),
+        Shown::Is(d) => three(out, 0, d.whole, d.digits),
+        Shown::Refused(n) => one(out, n as u64),
     }
 }
 
-fn print_report(l: Ledger, refused: u64) {
+fn print_report(out: &impl Print, l: Ledger, refused: u64) {
     let r = report::report_of(l, refused);
     let t = r.text;
     let bytes = t.bytes;
-    one(r.answer as u64);
-    word(wire::part(&bytes, 0, t.len));
+    one(out, r.answer as u64);
+    word(out, wire::part(&bytes, 0, t.len));
 }
 
 fn bit(b: bool) -> u64 {
     if b { 1 } else { 0 }
 }
 
-fn print_fed(fed: Fed) {
+fn print_fed(out: &impl Print, fed: Fed) {
     let f = fed.feed;
     let l = f.ledger;
-    number(fed.answer as u64);
-    number(l.events as u64);
-    number(f.refused);
-    number(f.held as u64);
-    one(bit(f.dead));
+    number(out, fed.answer as u64);
+    number(out, l.events as u64);
+    number(out, f.refused);
+    number(out, f.held as u64);
+    one(out, bit(f.dead));
 }
 
-fn print_read(r: Read) {
-    number(r.answer as u64);
-    number(r.refused);
-    one(bit(r.broken));
+fn print_read(out: &impl Print, r: Read) {
+    number(out, r.answer as u64);
+    number(out, r.refused);
+    one(out, bit(r.broken));
 }
 
 // Something that is no line, or no case.
-fn wrong(what: &[u8]) {
-    word(b" NOT KNOWN: ");
-    word(what);
-    word(b"\n");
+fn wrong(out: &impl Print, what: &[u8]) {
+    word(out, b" NOT KNOWN: ");
+    word(out, what);
+    word(out, b"\n");
 }
 
 // ---- what is read
@@ -117,7 +117,7 @@ fn place_of(text: &[u8], start: usize, byte: u8) -> usize {
 }
 
 // The first numbers of a line: as many as are read, each of them, 0 past them, and whether the last byte was a digit.
-#[derive(Drop)]
+#[derive(Clone, Copy)]
 struct Numbers {
     count: usize,
     values: [u64; 12],
@@ -131,7 +131,7 @@ fn with_digit(n: Numbers, digit: u64) -> Numbers {
     if at < 12 {
         let value = next.values[at];
         if value <= 1844674407370955161 {
-            next.values[at] = std::num::wrapping_add_u64(value * 10, digit);
+            next.values[at] = (value * 10).wrapping_add(digit);
         }
     }
     next.inside = true;
@@ -293,7 +293,7 @@ struct Bench {
 // ---- cases
 
 // An index, exactly or with so many digits.
-fn figure(l: Ledger, what: &[u8]) {
+fn figure(out: &impl Print, l: Ledger, what: &[u8]) {
     let index = index_told(what);
     let at_level = past_word(what);
     let level = level_told(at_level);
@@ -301,22 +301,28 @@ fn figure(l: Ledger, what: &[u8]) {
     let n = numbers_in(what);
     let v = n.values;
     if n.count == 0 {
-        print_exact(index::index_of(l, index, level, set));
+        print_exact(out, index::index_of(l, index, level, set));
         return;
     }
-    print_shown(index::decimal_of(l, index, level, set, (v[0] % 256) as u8));
+    print_shown(
+        out,
+        index::decimal_of(l, index, level, set, (v[0] % 256) as u8),
+    );
 }
 
 // What is asked of the ledger alone.
-fn tell(l: Ledger, what: &[u8]) {
+fn tell(out: &impl Print, l: Ledger, what: &[u8]) {
     let n = numbers_in(what);
     let v = n.values;
     match wire::byte_at(what, 0) {
-        b'C' | b'S' => figure(l, what),
-        b'f' => print_shown(decimal::decimal_of(ratio::lowest(v[0], v[1]), (v[2] % 256) as u8)),
-        b'r' => print_report(l, v[0]),
-        b'e' => print_read(book_pieces::finish(feed_of(l, v[0], v[1], v[2]))),
-        _ => wrong(what),
+        b'C' | b'S' => figure(out, l, what),
+        b'f' => print_shown(
+            out,
+            decimal::decimal_of(ratio::lowest(v[0], v[1]), (v[2] % 256) as u8),
+        ),
+        b'r' => print_report(out, l, v[0]),
+        b'e' => print_read(out, book_pieces::finish(feed_of(l, v[0], v[1], v[2]))),
+        _ => wrong(out, what),
     }
 }
 
@@ -338,7 +344,7 @@ fn sized(map: &mut [u8], size: usize) -> &mut [u8] {
 }
 
 // A piece: the bench with the buffer after it.
-fn take_piece(b: Bench, v: [u64; 12]) -> Bench {
+fn take_piece(out: &impl Print, b: Bench, v: [u64; 12]) -> Bench {
     let l = b.ledger;
     let mut buffer = b.buffer;
     let mut map = [0u8; 8192];
@@ -349,26 +355,26 @@ fn take_piece(b: Bench, v: [u64; 12]) -> Bench {
         &mut buffer,
         v[0] as usize,
     );
-    print_fed(fed);
+    print_fed(out, fed);
     Bench { ledger: l, buffer }
 }
 
 // A line with a colon at a place: a case.
-fn run_case(b: Bench, line: &[u8], colon: usize) -> Bench {
-    word(wire::part(line, 0, colon));
+fn run_case(out: &impl Print, b: Bench, line: &[u8], colon: usize) -> Bench {
+    word(out, wire::part(line, 0, colon));
     let what = past_word(wire::part(line, colon, line.len()));
     let l = b.ledger;
     if wire::byte_at(what, 0) == b'p' {
         let n = numbers_in(what);
         let v = n.values;
-        return take_piece(b, v);
+        return take_piece(out, b, v);
     }
-    tell(l, what);
+    tell(out, l, what);
     b
 }
 
 // A line that lends a ledger, or cells of one.
-fn lent_ledger(l: Ledger, line: &[u8]) -> Ledger {
+fn lent_ledger(out: &impl Print, l: Ledger, line: &[u8]) -> Ledger {
     let n = numbers_in(line);
     let v = n.values;
     match wire::byte_at(line, 0) {
@@ -377,14 +383,14 @@ fn lent_ledger(l: Ledger, line: &[u8]) -> Ledger {
         b'a' => with_rows(l, v),
         0 => l,
         _ => {
-            wrong(line);
+            wrong(out, line);
             l
         }
     }
 }
 
 // A line that is no case: what it lends.
-fn lent(b: Bench, line: &[u8]) -> Bench {
+fn lent(out: &impl Print, b: Bench, line: &[u8]) -> Bench {
     let l = b.ledger;
     let buffer = b.buffer;
     if wire::byte_at(line, 0) == b'b' {
@@ -396,33 +402,33 @@ fn lent(b: Bench, line: &[u8]) -> Bench {
         };
     }
     Bench {
-        ledger: lent_ledger(l, line),
+        ledger: lent_ledger(out, l, line),
         buffer,
     }
 }
 
 // A line that begins with neither # nor -.
-fn take_words(b: Bench, line: &[u8]) -> Bench {
+fn take_words(out: &impl Print, b: Bench, line: &[u8]) -> Bench {
     let colon = place_of(line, 0, b':');
     if line.len() <= colon {
-        return lent(b, line);
+        return lent(out, b, line);
     }
-    run_case(b, line, colon)
+    run_case(out, b, line, colon)
 }
 
-fn take_line(b: Bench, line: &[u8]) -> Bench {
+fn take_line(out: &impl Print, b: Bench, line: &[u8]) -> Bench {
     match wire::byte_at(line, 0) {
         b'#' => b,
         b'-' => {
-            word(line);
-            word(b"\n");
+            word(out, line);
+            word(out, b"\n");
             b
         }
-        _ => take_words(b, line),
+        _ => take_words(out, b, line),
     }
 }
 
-fn run(text: &[u8]) {
+fn run(out: &impl Print, text: &[u8]) {
     let mut b = Bench {
         ledger: Ledger::empty(),
         buffer: [0; 10],
@@ -430,7 +436,7 @@ fn run(text: &[u8]) {
     let mut stop: usize = 0;
     while stop < text.len() {
         let end = place_of(text, stop, b'\n');
-        b = take_line(b, wire::part(text, stop, end));
+        b = take_line(out, b, wire::part(text, stop, end));
         if text.len() <= end {
             return;
         }
@@ -441,8 +447,8 @@ fn run(text: &[u8]) {
     }
 }
 
-fn main() {
-    let mut text = io::large_buffer();
-    let n = io::read_full(STDIN_FILENO, &mut text);
-    run(&text[..n]);
+fn main(rt: HostRuntime) {
+    let mut text = [0u8; 65536];
+    let n = refill::read_full(&mut rt.stdin(), &mut text);
+    run(&rt, &text[..n]);
 }

@@ -1,4 +1,6 @@
-// A book read to its end from a descriptor, in pieces, from an empty ledger and an all-zero map.
+// A book read to its end from a reader, in pieces, from an empty ledger and an all-zero map.
+#![tactic(auto)]
+
 ghost use Rattle.std.specs.Prelude.{ℕ, ◌+◌, ◌≤◌, ◌≡◌, List, length, replicate};
 ghost use Rattle.used_numbers.specs.Marks.{map_size};
 ghost use Rattle.ledger.specs.Ledger.{empty_ledger};
@@ -9,6 +11,7 @@ ghost use Rattle.book_pieces.specs.Feed.{reading_of};
 use book::Read;
 use book_pieces::Feed;
 use ledger::Ledger;
+use std::io;
 
 // More turns than any file has pieces: 2^40. Past them the reading has failed.
 const MOST_TURNS: u64 = 1099511627776;
@@ -22,7 +25,7 @@ struct Turn {
 }
 
 // One piece more, where a record can still follow.
-fn take_next(fd: i32, feed: Feed, map: &mut [u8], buffer: &mut [u8]) -> Turn
+fn take_next<R: io::Read>(reader: &mut R, feed: Feed, map: &mut [u8], buffer: &mut [u8]) -> Turn
     requires { length buffer.old ≤ room }
     ensures { (st : BookState) (turns : ℕ) → Arrived take_record st (reading_of feed map.old) buffer.old turns → Arrived take_record st (reading_of result.feed map.new) buffer.new (turns + 1) }
 {
@@ -33,7 +36,7 @@ fn take_next(fd: i32, feed: Feed, map: &mut [u8], buffer: &mut [u8]) -> Turn
             failed: false,
         };
     }
-    let filled = refill::read_behind(fd, buffer, feed.held);
+    let filled = refill::read_behind(reader, buffer, feed.held);
     if filled.ended {
         return Turn {
             feed,
@@ -52,14 +55,14 @@ fn take_next(fd: i32, feed: Feed, map: &mut [u8], buffer: &mut [u8]) -> Turn
 }
 
 // Turn after turn, to the end of the input or to a length below 4, after which nothing can follow.
-fn take_all(fd: i32, map: &mut [u8], buffer: &mut [u8]) -> Turn
+fn take_all<R: io::Read>(reader: &mut R, map: &mut [u8], buffer: &mut [u8]) -> Turn
     requires { length buffer.old ≤ room }
     ensures { Arrived take_record (starting empty_ledger map.old) (reading_of result.feed map.new) buffer.new most_turns }
 {
     let mut feed = book_pieces::begin(Ledger::empty());
     let mut turns: u64 = 0;
     while turns < MOST_TURNS {
-        let turn = take_next(fd, feed, map, buffer);
+        let turn = take_next(reader, feed, map, buffer);
         if turn.ended {
             return turn;
         }
@@ -80,13 +83,13 @@ pub struct Input {
     pub failed: bool,
 }
 
-// Reads a book to its end. Some bytes came, which the system decides, and what is answered is what `book` answers to them in one call.
-pub fn read_book(fd: i32) -> Input
+// Reads a book to its end. Some bytes came, which the reader decides, and what is answered is what `book` answers to them in one call.
+pub fn read_book<R: io::Read>(reader: &mut R) -> Input
     ensures { (bytes : List ℕ) × (result.read ≡ read_of empty_ledger (replicate map_size 0) bytes) }
 {
     let mut map = [0u8; 8192];
-    let mut buffer = io::large_buffer();
-    let last = take_all(fd, &mut map, &mut buffer);
+    let mut buffer = [0u8; 65536];
+    let last = take_all(reader, &mut map, &mut buffer);
     Input {
         read: book_pieces::finish(last.feed),
         failed: last.failed,

@@ -1,3 +1,0 @@
-pub mod ArrayLend
-pub mod LendLaws
-pub mod Rows

@@ -1,0 +1,8 @@
+use Rattle.std.proofs.Common.{length, ◌-◌, ◌≤◌}
+use Rattle.refill.proofs.read_full.Given as goal
+
+abbrev pub invariant-loop-held : goal.invariant-loop-held
+invariant-loop-held g l = l.held ≤ length l.buffer
+
+abbrev pub decreases-loop-held : goal.decreases-loop-held
+decreases-loop-held g l = length l.buffer - l.held
