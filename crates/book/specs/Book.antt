@@ -1,7 +1,7 @@
 -- A book taken record by record: "a refused record is counted and passed over; a broken length counts as one refusal and ends the reading"
 -- (01, "Worked year").
 use Rattle.std.specs.Prelude.{ℕ, ◌+◌, List, false, cond}
-use Rattle.wire.specs.Cut.{records_of, stop_from, ends_by}
+use Rattle.wire.specs.Cut.{records_of, stop_from, ends_by_lem}
 use Rattle.records.specs.Records as records
 use Rattle.records.specs.Records.{one_if_refused, is_broken}
 use Rattle.ledger.specs.declared.Ledger.{Ledger}
@@ -41,7 +41,7 @@ pass_of l m book =
       ledger = (after_book l m book).ledger;
       refused = (after_book l m book).refused;
       stop = stop_from book 0;
-      which = ends_by book;
+      which = ends_by_lem book;
     }
 
 -- an unsound ledger or a map of another size answers 1, reads nothing and changes nothing

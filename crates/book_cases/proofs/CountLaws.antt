@@ -1,7 +1,7 @@
 -- How an asking that counts goes on: how many records were answered before an offset, and what is still to be answered from there. Assumes nothing.
 use Rattle.std.proofs.Common.{◌≡◌, ℕ, ◌+◌, ◌-◌, ◌<◌, ◌≤◌, not, T, eqb, List, ◌∷◌, length, sym, refl, ap, ◌∙◌, subst, arith, T_not}
 use Rattle.wire.specs.Book.{which_at, record_at, after_at}
-use Rattle.wire.specs.Cut.{records_of, records_from, stop_from, ends_by}
+use Rattle.wire.specs.Cut.{records_of, records_from, stop_from, ends_by_lem}
 use Rattle.wire.proofs.CutLaws.{records_is, passed, halted}
 use Rattle.reader.proofs.ReaderLaws.{same_reader}
 
@@ -27,7 +27,7 @@ module _ (book : List ℕ) where
 
   -- where no record is answered, all are counted
   pub come_end : (n at : ℕ) → Come n at → (which_at book at ≡ 0 → ⊥)
-      → (n ≡ length (records_of book)) × (after_at book at ≡ stop_from book 0) × (which_at book at ≡ ends_by book)
+      → (n ≡ length (records_of book)) × (after_at book at ≡ stop_from book 0) × (which_at book at ≡ ends_by_lem book)
   come_end n at c h =
       let q = halted book at h in
       let l : length (records_from book at) ≡ 0 = ap length q.0 in

@@ -24,7 +24,7 @@
 // as such.
 ghost use Rattle.std.specs.Prelude.{◌≡◌, length};
 ghost use Rattle.wire.specs.Book.{which_at, record_at, after_at};
-ghost use Rattle.wire.specs.Cut.{records_of, stop_from, ends_by};
+ghost use Rattle.wire.specs.Cut.{records_of, stop_from, ends_by_lem};
 
 use annex::{Customers, HalfMinutes};
 use book::Read;
@@ -402,7 +402,7 @@ struct Counted {
 
 // Asks a book's reader until it answers no record.
 fn count_records(book: &[u8]) -> Counted
-    ensures { (result.count ≡ length (records_of book.now)) × (result.at ≡ stop_from book.now 0) × (result.which ≡ ends_by book.now) }
+    ensures { (result.count ≡ length (records_of book.now)) × (result.at ≡ stop_from book.now 0) × (result.which ≡ ends_by_lem book.now) }
 {
     let mut n: usize = 0;
     let mut a = Reader::new(book).next();

@@ -1,6 +1,6 @@
 -- A book taken in pieces: "the year report reads one book from standard input", of any length, in constant memory.
 use Rattle.std.specs.Prelude.{ℕ, ◌+◌, List, true, false, ◌&&◌, cond, length, eqb}
-use Rattle.records.specs.Pieces.{Held, held_on, buffer_on, end_answer, piece_answer}
+use Rattle.records.specs.Pieces.{Held, held_on_lem, buffer_on, end_answer, piece_answer}
 use Rattle.used_numbers.specs.Marks.{map_size}
 use Rattle.ledger.specs.declared.Ledger.{Ledger}
 use Rattle.ledger.specs.Sound.{sound_ledger}
@@ -26,7 +26,7 @@ fed_answer f m b filled = piece_answer (eqb (length m) map_size && sound_ledger 
 
 -- the reading with the records of the first `filled` bytes of a buffer, where they are taken
 abbrev pub read_on : Feed → List ℕ → List ℕ → ℕ → Held BookState
-read_on f m b filled = held_on take_record (reading_of f m) b filled
+read_on f m b filled = held_on_lem take_record (reading_of f m) b filled
 
 unfoldable pub fed_of : Feed → List ℕ → List ℕ → ℕ → Fed
 fed_of f m b filled =

@@ -18,7 +18,7 @@ use Rattle.wire.proofs.WriteLaws.{of_two, of_four, le32_behind}
 use Rattle.annex.specs.declared.Step.{Step}
 use Rattle.fields.specs.declared.Head.{Head}
 use Rattle.fields.specs.Fields.{sheet_in, head_in, simple_in, step_at, steps_from, step_count, steps_in}
-use Rattle.codec.specs.Codec.{four_each, frame, sheet_record, head_bytes, simple_record, step_numbers, event_record}
+use Rattle.codec.specs.Codec.{four_each, frame, sheet_record, head_bytes_lem, simple_record, step_numbers, event_record}
 use Rattle.codec.specs.Fits.{Fours, HeadInBytes, StepInBytes}
 
 -- ---- bytes are written
@@ -40,7 +40,7 @@ fours_bytes (n ∷ ns) = all_append Byte (le4 n) (four_each ns) (four_bytes n) (
 pub frame_bytes : (n kind : ℕ) → Bytes (frame n kind)
 frame_bytes n kind = all_append Byte (le2 n) (le2 kind) (two_bytes n) (two_bytes kind)
 
-pub head_bytes_lem : (h : Head) → Bytes (head_bytes h)
+pub head_bytes_lem : (h : Head) → Bytes (head_bytes_lem h)
 head_bytes_lem h = (low h.number, (low (h.number / 256), (low h.typ, (low h.voltage, (low h.cause, four_bytes h.t0)))))
 
 -- ---- a sheet
@@ -68,7 +68,7 @@ module _ (h : Head) (fits : HeadInBytes h) where
   code : (n : ℕ) → n < 256 → n % 256 ≡ n
   code n l = omega arith
 
-  pub head_back : (n kind : ℕ) (rest : List ℕ) → head_in (frame n kind ++ (head_bytes h ++ rest)) ≡ h
+  pub head_back : (n kind : ℕ) (rest : List ℕ) → head_in (frame n kind ++ (head_bytes_lem h ++ rest)) ≡ h
   head_back n kind rest =
       λ i.
       record {
@@ -175,7 +175,7 @@ module _ (h : Head) (ss : List Step) where
 
   -- what stands before the steps
   abbrev front : List ℕ
-  front = frame (14 + 16 * length ss) 3 ++ (head_bytes h ++ (length ss ∷ []))
+  front = frame (14 + 16 * length ss) 3 ++ (head_bytes_lem h ++ (length ss ∷ []))
 
   pub stepped_back : All StepInBytes ss → steps_in (event_record h ss) ≡ ss
   stepped_back fits = steps_behind front (four_each (step_numbers ss)) (length ss) 0 ∙ steps_back ss fits
@@ -184,5 +184,5 @@ module _ (h : Head) (ss : List Step) where
   pub stepped_bytes_lem : length ss < 256 → Bytes (event_record h ss)
   stepped_bytes_lem few =
       let rest : List ℕ = length ss ∷ four_each (step_numbers ss) in
-      all_append Byte (frame (14 + 16 * length ss) 3) (head_bytes h ++ rest) (frame_bytes (14 + 16 * length ss) 3)
-      (all_append Byte (head_bytes h) rest (head_bytes_lem h) (few, fours_bytes (step_numbers ss)))
+      all_append Byte (frame (14 + 16 * length ss) 3) (head_bytes_lem h ++ rest) (frame_bytes (14 + 16 * length ss) 3)
+      (all_append Byte (head_bytes_lem h) rest (head_bytes_lem h) (few, fours_bytes (step_numbers ss)))

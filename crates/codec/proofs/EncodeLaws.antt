@@ -14,7 +14,7 @@ use Rattle.wire.specs.Numbers.{byte_at, le16, le32, le2, le4}
 use Rattle.wire.proofs.WriteLaws.{le2_written, le4_written}
 use Rattle.wire.proofs.ByteLaws.{le16_below, le32_below}
 use Rattle.fields.specs.Fields.{head_in, step_at, steps_from, step_count, steps_in}
-use Rattle.codec.specs.Codec.{four_each, frame, sheet_record, head_bytes, simple_record, stepped_record, step_numbers, event_record}
+use Rattle.codec.specs.Codec.{four_each, frame, sheet_record, head_bytes_lem, simple_record, stepped_record, step_numbers, event_record}
 use Rattle.codec.specs.Fits.{HeadInBytes, StepInBytes}
 
 -- ---- what is read from bytes fits them
@@ -92,7 +92,7 @@ module _ (s : List ℕ) (b : Bytes s) where
   frame_again : 4 ≤ length s → frame (le16 s 0) (le16 s 2) ++ drop 4 s ≡ s
   frame_again h = ap (λ (l : List ℕ). le2 (le16 s 0) ++ l) (two_again s b 2 h) ∙ two_again s b 0 (omega arith)
 
-  head_again : 13 ≤ length s → head_bytes (head_in s) ++ drop 13 s ≡ drop 4 s
+  head_again : 13 ≤ length s → head_bytes_lem (head_in s) ++ drop 13 s ≡ drop 4 s
   head_again h =
       ap (λ (l : List ℕ). le2 (le16 s 4) ++ (byte_at s 6 % 256 ∷ byte_at s 7 % 256 ∷ byte_at s 8 % 256 ∷ l)) (four_again s b 9 h)
       ∙ ap (λ (l : List ℕ). le2 (le16 s 4) ++ (byte_at s 6 % 256 ∷ byte_at s 7 % 256 ∷ l)) (one_again s b 8 (omega arith))
@@ -111,7 +111,7 @@ module _ (s : List ℕ) (b : Bytes s) where
   pub simple_again : le16 s 0 ≡ length s → le16 s 2 ≡ 2 → length s ≡ 53 → simple_record (head_in s) (fours_from s 10 13) ≡ s
   simple_again stated kind l =
       let n : 53 ≡ le16 s 0 = omega arith in
-      (λ i. frame (n i) (sym kind i) ++ (head_bytes (head_in s) ++ fours_again s b 10 13 (sym l) i))
+      (λ i. frame (n i) (sym kind i) ++ (head_bytes_lem (head_in s) ++ fours_again s b 10 13 (sym l) i))
       ∙ ap (λ (r : List ℕ). frame (le16 s 0) (le16 s 2) ++ r) (head_again (omega arith))
       ∙ frame_again (omega arith)
 
@@ -123,8 +123,8 @@ module _ (s : List ℕ) (b : Bytes s) where
   stepped_again stated kind l =
       let n : 14 + 16 * step_count s ≡ le16 s 0 = omega arith in
       let to_end : 14 + 4 * (4 * step_count s) ≡ length s = omega arith in
-      (λ i. frame (n i) (sym kind i) ++ (head_bytes (head_in s) ++ (step_count s ∷ fours_again s b (4 * step_count s) 14 to_end i)))
-      ∙ ap (λ (r : List ℕ). frame (le16 s 0) (le16 s 2) ++ (head_bytes (head_in s) ++ r)) (first_byte s b 13 (omega arith))
+      (λ i. frame (n i) (sym kind i) ++ (head_bytes_lem (head_in s) ++ (step_count s ∷ fours_again s b (4 * step_count s) 14 to_end i)))
+      ∙ ap (λ (r : List ℕ). frame (le16 s 0) (le16 s 2) ++ (head_bytes_lem (head_in s) ++ r)) (first_byte s b 13 (omega arith))
       ∙ ap (λ (r : List ℕ). frame (le16 s 0) (le16 s 2) ++ r) (head_again (omega arith))
       ∙ frame_again (omega arith)
 

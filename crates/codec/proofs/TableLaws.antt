@@ -18,7 +18,7 @@ use Rattle.annex.specs.declared.Step.{Step}
 use Rattle.fields.specs.declared.Head.{Head}
 use Rattle.fields.specs.Table.{Width, One, Two, Four, bytes_of, sheet_fields, simple_fields, steps_fields, stepped_fields, length_of, number_at, numbers_from, numbers_by, head_numbers}
 use Rattle.fields.proofs.TableLaws.{lengths}
-use Rattle.codec.specs.Codec.{four_each, frame, sheet_record, head_bytes, simple_record, step_numbers, event_record}
+use Rattle.codec.specs.Codec.{four_each, frame, sheet_record, head_bytes_lem, simple_record, step_numbers, event_record}
 use Rattle.codec.specs.Written.{in_bytes, written, record_by, room, InFields}
 
 number_back : (w : Width) (v : ℕ) (rest : List ℕ) → v < room w → number_at w (in_bytes w v ++ rest) 0 ≡ v
@@ -99,4 +99,4 @@ pub stepped_by_table :
 stepped_by_table h ss few =
     let size : 14 + 16 * length ss ≡ length_of (stepped_fields (length ss)) = sym (lengths.2 (length ss)) in
     let count : length ss ≡ length ss % 256 = omega arith in
-    λ i. frame (size i) 3 ++ (head_bytes h ++ (count i ∷ steps_written ss i))
+    λ i. frame (size i) 3 ++ (head_bytes_lem h ++ (count i ∷ steps_written ss i))

@@ -19,12 +19,12 @@ abbrev pub sheet_record : ℕ → List ℕ → List ℕ
 sheet_record year totals = frame 18 1 ++ (le2 year ++ four_each totals)
 
 -- "number 2, type 1, voltage 1, cause 1, T0"
-abbrev pub head_bytes : Head → List ℕ
-head_bytes h = le2 h.number ++ (h.typ % 256 ∷ h.voltage % 256 ∷ h.cause % 256 ∷ le4 h.t0)
+abbrev pub head_bytes_lem : Head → List ℕ
+head_bytes_lem h = le2 h.number ++ (h.typ % 256 ∷ h.voltage % 256 ∷ h.cause % 256 ∷ le4 h.t0)
 
 -- kind 2: the head, then T1 T2 T3 T4, n1 3x4, n2 3x4; 53
 abbrev pub simple_record : Head → List ℕ → List ℕ
-simple_record h numbers = frame 53 2 ++ (head_bytes h ++ four_each numbers)
+simple_record h numbers = frame 53 2 ++ (head_bytes_lem h ++ four_each numbers)
 
 -- the numbers of a simple event behind T0
 abbrev pub simple_numbers : Simple → List ℕ
@@ -32,7 +32,7 @@ simple_numbers e = e.t1 ∷ e.t2 ∷ e.t3 ∷ e.t4 ∷ (e.n1 ++ e.n2)
 
 -- kind 3: the head, then step count 1, then per step: time, 3 counts; 14 + 16 x steps
 abbrev pub stepped_record : Head → ℕ → List ℕ → List ℕ
-stepped_record h count numbers = frame (14 + 16 * count) 3 ++ (head_bytes h ++ (count ∷ four_each numbers))
+stepped_record h count numbers = frame (14 + 16 * count) 3 ++ (head_bytes_lem h ++ (count ∷ four_each numbers))
 
 -- the numbers of steps, one step after the other
 abbrev pub step_numbers : List Step → List ℕ

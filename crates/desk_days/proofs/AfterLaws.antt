@@ -16,7 +16,7 @@ use Rattle.fields.specs.Fields.{head_in}
 use Rattle.fields.specs.Tests.{head_listed}
 use Rattle.verdict.specs.declared.Verdict.{Verdict}
 use Rattle.verdict.specs.Verdict.{event_verdict}
-use Rattle.record.specs.Rules.{rules_at, not_listed, already_marked}
+use Rattle.record.specs.Rules.{rules_at, not_listed_lem, already_marked}
 use Rattle.record.specs.Verdict.{accepted_at}
 use Rattle.record.proofs.JudgeLaws.{accepted_rules}
 use Rattle.record.proofs.FairLaws.{kind_taken}
@@ -130,7 +130,7 @@ module _ (l : Ledger) (m s : List ℕ) (a : answer_of l m s ≡ 0) where
   event_at_lem :
       (kind : ℕ) →
       kind_of s ≡ kind →
-      not_listed kind s ≡ not (head_listed (head_in s)) →
+      not_listed_lem kind s ≡ not (head_listed (head_in s)) →
       already_marked kind s m ≡ marked m (head_in s).number →
       (accepted_at kind s l.sheet).sheet ≡ l.sheet →
       (accepted_at kind s l.sheet).number ≡ (head_in s).number →

@@ -28,7 +28,7 @@ use Rattle.codec.proofs.DecodeLaws.{stepped_head, stepped_back, stepped_length, 
 use Rattle.limits.specs.Limits.{exceeding, above_level, any_late}
 use Rattle.verdict.specs.declared.Verdict.{Verdict}
 use Rattle.verdict.specs.Verdict.{event_verdict}
-use Rattle.record.specs.Rules.{length_wrong, not_listed, time_wrong, count_too_large, count_too_high, already_marked, ledger_full}
+use Rattle.record.specs.Rules.{length_wrong, not_listed_lem, time_wrong, count_too_large, count_too_high, already_marked, ledger_full}
 use Rattle.record.specs.Verdict.{verdict_of}
 use Rattle.ledger.specs.declared.Ledger.{Ledger}
 use Rattle.ledger.specs.Ledger.{added}
@@ -80,7 +80,7 @@ module _ (l : Ledger) (m : List ℕ) (e : SteppedEvent) (p : Passed l.sheet e) (
       (or_both (ltb (length (record_of e)) 14) (eqb n 0) (le-ltb (length (record_of e)) 14 (omega arith)) (ne_eqb n 0 some))
       (le-ltb 64 n few))
       (ap not (eq-eqb _ _ long)) in
-      let r7 : not_listed 3 (record_of e) ≡ false = ap (λ (x : Head). not (head_listed x)) h ∙ ap not p.head_listed_lem in
+      let r7 : not_listed_lem 3 (record_of e) ≡ false = ap (λ (x : Head). not (head_listed x)) h ∙ ap not p.head_listed_lem in
       let r10 : time_wrong 3 (record_of e) l.sheet ≡ false =
       (λ i. leb year (h i).t0 || any_late (h i).t0 (ss i)) ∙
       or_both (leb year e.head.t0) (any_late e.head.t0 e.steps) (lt-leb year e.head.t0 p.begins) p.timely in

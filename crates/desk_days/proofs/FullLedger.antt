@@ -229,16 +229,16 @@ module _ (st : State) (sound : Sound st) (k : Accounted st) where
       true≢false (sym (full_marked st k (at_last e) number (omega arith) (omega arith)) ∙ u)
 
   module _ (s : List ℕ) (b : Bytes s) where
-    entry_at : (kind : ℕ) → (kind ≡ 1) ⊎ ((kind ≡ 2) ⊎ (kind ≡ 3)) → book-rules.not_listed kind s ≡ false → book-rules.already_marked kind s st.map ≡ false → book-rules.ledger_full kind st.ledger.events ≡ true → ⊥
+    entry_at : (kind : ℕ) → (kind ≡ 1) ⊎ ((kind ≡ 2) ⊎ (kind ≡ 3)) → book-rules.not_listed_lem kind s ≡ false → book-rules.already_marked kind s st.map ≡ false → book-rules.ledger_full kind st.ledger.events ≡ true → ⊥
     entry_at kind (inl q) n u f = true≢false (sym f ∙ ap (λ kind. book-rules.ledger_full kind st.ledger.events) q)
     entry_at kind (inr (inl q)) n u f =
         event_not_15 s b
-        (not-false _ (sym (ap (λ kind. book-rules.not_listed kind s) q) ∙ n))
+        (not-false _ (sym (ap (λ kind. book-rules.not_listed_lem kind s) q) ∙ n))
         (sym (ap (λ kind. book-rules.already_marked kind s st.map) q) ∙ u)
         (sym (ap (λ kind. book-rules.ledger_full kind st.ledger.events) q) ∙ f)
     entry_at kind (inr (inr q)) n u f =
         event_not_15 s b
-        (not-false _ (sym (ap (λ kind. book-rules.not_listed kind s) q) ∙ n))
+        (not-false _ (sym (ap (λ kind. book-rules.not_listed_lem kind s) q) ∙ n))
         (sym (ap (λ kind. book-rules.already_marked kind s st.map) q) ∙ u)
         (sym (ap (λ kind. book-rules.ledger_full kind st.ledger.events) q) ∙ f)
 
@@ -253,12 +253,12 @@ module _ (st : State) (sound : Sound st) (k : Accounted st) where
     close_not_15 n found e =
         omega (arith, full_none_open st k (at_last e), named_open st sound k (number_in s) n found, open_there st.desk (place_of (number_in s) st.desk))
 
-    message_at : (kind : ℕ) → (kind ≡ 16) ⊎ ((kind ≡ 17) ⊎ (kind ≡ 18)) → desk-rules.not_listed kind s ≡ false → desk-rules.not_open kind (look_at st.desk s) ≡ false → desk-rules.ledger_full kind st.ledger ≡ true → ⊥
+    message_at : (kind : ℕ) → (kind ≡ 16) ⊎ ((kind ≡ 17) ⊎ (kind ≡ 18)) → desk-rules.not_listed_lem kind s ≡ false → desk-rules.not_open kind (look_at st.desk s) ≡ false → desk-rules.ledger_full kind st.ledger ≡ true → ⊥
     message_at kind (inl q) n o f = true≢false (sym f ∙ ap (λ kind. desk-rules.ledger_full kind st.ledger) q)
     message_at kind (inr (inl q)) n o f = true≢false (sym f ∙ ap (λ kind. desk-rules.ledger_full kind st.ledger) q)
     message_at kind (inr (inr q)) n o f =
         close_not_15
-        (eqb-false (number_in s) 0 (sym (ap (λ kind. desk-rules.not_listed kind s) q) ∙ n))
+        (eqb-false (number_in s) 0 (sym (ap (λ kind. desk-rules.not_listed_lem kind s) q) ∙ n))
         (leb-false slot_count (place_of (number_in s) st.desk) (sym (ap (λ kind. desk-rules.not_open kind (look_at st.desk s)) q) ∙ o))
         (sym (ap (λ kind. desk-rules.ledger_full kind st.ledger) q) ∙ f)
 

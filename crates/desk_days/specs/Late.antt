@@ -53,13 +53,13 @@ abbrev pub again_rules : State → Arrival → List Rule
 again_rules st (message s) =
     (2, unframed s) ∷
     (4, desk.length_wrong (kind_of s) s) ∷
-    (7, desk.not_listed (kind_of s) s) ∷
+    (7, desk.not_listed_lem (kind_of s) s) ∷
     (10, desk.time_wrong (kind_of s) (look_at st.desk s) st.ledger s) ∷
     (14, true) ∷ []
 again_rules st (booked s) =
     (2, unframed s) ∷
     (4, book.length_wrong (kind_of s) s) ∷
-    (7, book.not_listed (kind_of s) s) ∷
+    (7, book.not_listed_lem (kind_of s) s) ∷
     (10, book.time_wrong (kind_of s) s st.ledger.sheet) ∷
     (11, book.count_too_large (kind_of s) s st.ledger.sheet) ∷
     (12, book.count_too_high (kind_of s) s) ∷

@@ -11,7 +11,7 @@ use Rattle.desk_days.specs.Day.{State, Arrival, message, booked, after_all}
 use Rattle.desk_days.specs.Story.{empty_day}
 use Rattle.worked.specs.Bytes.{three, times, simple, codes}
 use Rattle.worked.specs.Worked.{sheet105}
-use Rattle.desk_runs.specs.Messages.{open_of, step_of, close_of}
+use Rattle.desk_runs.specs.Messages.{open_of_lem, step_of, close_of}
 
 -- a head, and a step with its three counts
 abbrev head : ℕ → ℕ → ℕ → ℕ → ℕ → Head
@@ -27,10 +27,10 @@ ledger = ledger_after empty_ledger zero_map sheet105
 abbrev pub messages : List (List ℕ)
 messages =
     -- 5 is opened as a VN event at 0, and has its step 1
-    open_of (head 5 11 5 0 0) ∷
+    open_of_lem (head 5 11 5 0 0) ∷
     step_of 5 1 (off 84 62 0) ∷
     -- 65,535 is opened on NN at 500, and has its step 1
-    open_of (head 65535 12 1 39 500) ∷
+    open_of_lem (head 65535 12 1 39 500) ∷
     step_of 65535 1 (off 510 7 0) ∷
     -- closed by another count
     close_of 65535 2 ∷
@@ -41,11 +41,11 @@ messages =
     -- a step of it that comes late
     step_of 65535 2 (off 600 1 0) ∷
     -- 300 is opened, in the slot that is free again
-    open_of (head 300 2 1 0 1000) ∷
+    open_of_lem (head 300 2 1 0 1000) ∷
     -- a step of 5 with a time before the last one
     step_of 5 3 (off 80 1 0) ∷
     -- 5 is opened again
-    open_of (head 5 11 5 0 0) ∷
+    open_of_lem (head 5 11 5 0 0) ∷
     -- step 3 of 5
     step_of 5 3 (off 167 62 0) ∷
     -- step 1 of 300, after 3 minutes
@@ -122,7 +122,7 @@ numbers =
     17 ∷ 18 ∷ 19 ∷ 20 ∷ 21 ∷ 22 ∷ 23 ∷ 24 ∷ 25 ∷ 26 ∷ 27 ∷ 28 ∷ 29 ∷ 30 ∷ 31 ∷ 32 ∷ []
 
 abbrev opening : ℕ → List ℕ
-opening v = open_of (head v 11 1 0 0)
+opening v = open_of_lem (head v 11 1 0 0)
 
 -- 32 outages are opened, and 33 finds no slot; each has a step and is closed, and 33 is opened in the first slot
 abbrev pub crowd : List (List ℕ)

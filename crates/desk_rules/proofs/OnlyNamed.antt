@@ -23,7 +23,7 @@ use Rattle.slot.specs.declared.Slot.{Slot}
 use Rattle.slot.specs.Slot.{free_slot, opened_by, stepped_by}
 use Rattle.desk_scan.specs.Desk.{slot_count, number_at, desk_sound, place_of, slot_of, number_in}
 use Rattle.desk_scan.proofs.SearchLaws.{found_number, before, absent, missing, place_first, differ_apart, desk_slots, desk_differ}
-use Rattle.desk_rules.specs.Rules.{look_at, step_in, rules, any_unsound, kind_not_taken, length_wrong, sheet_missing, not_listed, not_open}
+use Rattle.desk_rules.specs.Rules.{look_at, step_in, rules, any_unsound, kind_not_taken, length_wrong, sheet_missing, not_listed_lem, not_open}
 use Rattle.desk_rules.specs.Plan.{look_answer}
 use Rattle.desk_rules.specs.Serve.{message_answer, ledger_served, map_served, desk_served}
 use Rattle.desk_rules.proofs.MessageLaws.{open_right, step_right, close_right, opened, stepped, closed, refused_same, accepted_kind, accepted_desk_sound}
@@ -266,7 +266,7 @@ module _ (l : Ledger) (m : List ℕ) (d : List Slot) (s : List ℕ) where
           (kind_not_taken (kind_of s))
           (length_wrong (kind_of s) s)
           (sheet_missing (kind_of s) l)
-          (not_listed (kind_of s) s)
+          (not_listed_lem (kind_of s) s)
           (not_open (kind_of s) (look_at d s))
           (first (drop 7 (rules (look_at d s) l m s)))
           (search_fails k (sound_desk e) none)

@@ -23,7 +23,7 @@ use Rattle.ledger.specs.Inside.{Fits}
 use Rattle.slot.specs.Sound.{slot_sound, open_sound}
 use Rattle.slot.proofs.SoundLaws.{steps_open, open_listed, open_within}
 use Rattle.desk_rules.specs.declared.Plan.{Plan}
-use Rattle.desk_rules.specs.Rules.{Look, ordinal_in, step_in, by_message, any_unsound, length_wrong, sheet_missing, not_listed, not_open, count_wrong, time_wrong, count_too_large, count_too_high, already_used, ledger_full, desk_full, rules_at, rules}
+use Rattle.desk_rules.specs.Rules.{Look, ordinal_in, step_in, by_message, any_unsound, length_wrong, sheet_missing, not_listed_lem, not_open, count_wrong, time_wrong, count_too_large, count_too_high, already_used, ledger_full, desk_full, rules_at, rules}
 use Rattle.desk_rules.specs.Inside.{answer_at, plan_at}
 use Rattle.desk_rules.specs.Plan.{refused_plan, accepted_plan, look_answer, plan_of}
 
@@ -124,14 +124,14 @@ module _ (k : Look) (l : Ledger) (m s : List ℕ) where
   pub open_answer :
       length_wrong 16 s ≡ false →
       answer_at 16 k l m s ≡
-      cond (sheet_missing 16 l) 5 (cond (not_listed 16 s) 7 (cond (time_wrong 16 k l s) 10 (cond (already_used 16 k m s) 14 (cond (desk_full 16 k) 16 0))))
+      cond (sheet_missing 16 l) 5 (cond (not_listed_lem 16 s) 7 (cond (time_wrong 16 k l s) 10 (cond (already_used 16 k m s) 14 (cond (desk_full 16 k) 16 0))))
   unfolding answer_at
   open_answer e = rw e
 
   pub step_answer :
       length_wrong 17 s ≡ false →
       answer_at 17 k l m s ≡
-      cond (sheet_missing 17 l) 5 (cond (not_listed 17 s) 7 (cond (not_open 17 k) 8 (cond (count_wrong 17 k s) 9
+      cond (sheet_missing 17 l) 5 (cond (not_listed_lem 17 s) 7 (cond (not_open 17 k) 8 (cond (count_wrong 17 k s) 9
       (cond (time_wrong 17 k l s) 10 (cond (count_too_large 17 l s) 11 (cond (count_too_high 17 k s) 12 0))))))
   unfolding answer_at
   step_answer e = rw e
@@ -139,7 +139,7 @@ module _ (k : Look) (l : Ledger) (m s : List ℕ) where
   pub close_answer :
       length_wrong 18 s ≡ false →
       answer_at 18 k l m s ≡
-      cond (sheet_missing 18 l) 5 (cond (not_listed 18 s) 7 (cond (not_open 18 k) 8 (cond (count_wrong 18 k s) 9 (cond (ledger_full 18 l) 15 0))))
+      cond (sheet_missing 18 l) 5 (cond (not_listed_lem 18 s) 7 (cond (not_open 18 k) 8 (cond (count_wrong 18 k s) 9 (cond (ledger_full 18 l) 15 0))))
   unfolding answer_at
   close_answer e = rw e
 

@@ -6,7 +6,7 @@ use Rattle.ledger.specs.declared.Ledger.{Ledger}
 use Rattle.slot.specs.declared.Slot.{Slot}
 use Rattle.slot.specs.Slot.{free_slot}
 use Rattle.desk_scan.specs.Desk.{number_at, number_in}
-use Rattle.desk_rules.specs.Rules.{look_at, any_unsound, length_wrong, sheet_missing, not_listed}
+use Rattle.desk_rules.specs.Rules.{look_at, any_unsound, length_wrong, sheet_missing, not_listed_lem}
 use Rattle.desk_rules.specs.Serve.{message_answer, desk_served}
 
 -- the messages that name an open outage
@@ -39,5 +39,5 @@ module _ (l : Ledger) (m : List ℕ) (d : List Slot) (s : List ℕ) where
     pub whole : unframed s ≡ false
     pub long : length_wrong (kind_of s) s ≡ false
     pub sheet : sheet_missing (kind_of s) l ≡ false
-    pub numbered : not_listed (kind_of s) s ≡ false
+    pub numbered : not_listed_lem (kind_of s) s ≡ false
     pub not_held : NotHeld (number_in s) d

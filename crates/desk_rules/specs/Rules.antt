@@ -61,8 +61,8 @@ abbrev pub sheet_missing : ℕ → Ledger → Bool
 sheet_missing kind l = by_message kind (not l.sheet.there) (not l.sheet.there) (not l.sheet.there)
 
 -- 7: "number 0, or a type, voltage or cause not listed"
-abbrev pub not_listed : ℕ → List ℕ → Bool
-not_listed kind s = by_message kind (not (head_listed (head_in s))) (eqb (number_in s) 0) (eqb (number_in s) 0)
+abbrev pub not_listed_lem : ℕ → List ℕ → Bool
+not_listed_lem kind s = by_message kind (not (head_listed (head_in s))) (eqb (number_in s) 0) (eqb (number_in s) 0)
 
 -- 8: "step or close for a number that is not open": the search for it passes every slot
 abbrev pub not_open : ℕ → Look → Bool
@@ -105,7 +105,7 @@ rules_at kind k l m s =
     (3, kind_not_taken kind) ∷
     (4, length_wrong kind s) ∷
     (5, sheet_missing kind l) ∷
-    (7, not_listed kind s) ∷
+    (7, not_listed_lem kind s) ∷
     (8, not_open kind k) ∷
     (9, count_wrong kind k s) ∷
     (10, time_wrong kind k l s) ∷

@@ -39,7 +39,7 @@ use Rattle.desk_days.proofs.EncodeLaws.{Passed, verdict_for}
 use Rattle.desk_days.proofs.AfterLaws.{after_opened, after_stepped, after_closed}
 use Rattle.desk_days.proofs.SoundDay.{not_unsound, sound_not_1, sound_stays_sound, sound_throughout}
 use Rattle.desk_days.proofs.FoldedDay.{all_steps}
-use Rattle.desk_runs.specs.Messages.{open_of, step_of, close_of, steps_of, messages_for}
+use Rattle.desk_runs.specs.Messages.{open_of_lem, step_of, close_of, steps_of, messages_for}
 use Rattle.desk_runs.specs.Runs.{Leads}
 use Rattle.desk_runs.proofs.MessageLaws.{open_head, step_number, step_back, close_number}
 use Rattle.desk_runs.proofs.LeadLaws.{leads_none, leads_one, leads_then}
@@ -85,7 +85,7 @@ module _ (l : Ledger) (m : List ℕ) (e : SteppedEvent) (p : Passed l.sheet e) (
 
   -- the open
   abbrev opening : List ℕ
-  opening = open_of e.head
+  opening = open_of_lem e.head
 
   open_taken : answer_to (empty_day l m) (message opening) ≡ 0
   open_taken =

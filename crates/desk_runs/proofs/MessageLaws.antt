@@ -13,32 +13,32 @@ use Rattle.wire.proofs.WriteLaws.{of_two, of_four}
 use Rattle.annex.specs.declared.Step.{Step}
 use Rattle.fields.specs.declared.Head.{Head}
 use Rattle.fields.specs.Fields.{head_in}
-use Rattle.codec.specs.Codec.{four_each, frame, head_bytes, step_numbers}
+use Rattle.codec.specs.Codec.{four_each, frame, head_bytes_lem, step_numbers}
 use Rattle.codec.specs.Fits.{HeadInBytes, StepInBytes}
 use Rattle.codec.proofs.DecodeLaws.{two_bytes, fours_bytes, frame_bytes, head_bytes_lem, head_back}
 use Rattle.desk_scan.specs.Desk.{number_in}
 use Rattle.desk_rules.specs.Rules.{ordinal_in, step_in}
 use Rattle.desk_days.specs.Story.{SteppedEvent}
 use Rattle.desk_days.proofs.EncodeLaws.{InBytes}
-use Rattle.desk_runs.specs.Messages.{open_of, step_of, close_of, steps_of, messages_for}
+use Rattle.desk_runs.specs.Messages.{open_of_lem, step_of, close_of, steps_of, messages_for}
 
 -- ---- an open
 
 module _ (h : Head) (f : HeadInBytes h) where
-  pub open_kind : kind_of (open_of h) ≡ 16
+  pub open_kind : kind_of (open_of_lem h) ≡ 16
   open_kind = refl
 
-  pub open_framed : framed (open_of h) ≡ true
+  pub open_framed : framed (open_of_lem h) ≡ true
   open_framed = refl
 
-  pub open_long : length (open_of h) ≡ 13
+  pub open_long : length (open_of_lem h) ≡ 13
   open_long = refl
 
-  pub open_head : head_in (open_of h) ≡ h
-  open_head = ap head_in (sym (ap (λ (r : List ℕ). frame 13 16 ++ r) (append-nil (head_bytes h)))) ∙ head_back h f 13 16 []
+  pub open_head : head_in (open_of_lem h) ≡ h
+  open_head = ap head_in (sym (ap (λ (r : List ℕ). frame 13 16 ++ r) (append-nil (head_bytes_lem h)))) ∙ head_back h f 13 16 []
 
-  pub open_bytes : Bytes (open_of h)
-  open_bytes = all_append Byte (frame 13 16) (head_bytes h) (frame_bytes 13 16) (head_bytes_lem h)
+  pub open_bytes : Bytes (open_of_lem h)
+  open_bytes = all_append Byte (frame 13 16) (head_bytes_lem h) (frame_bytes 13 16) (head_bytes_lem h)
 
 -- ---- a step
 

@@ -3,12 +3,12 @@ use Rattle.std.specs.Prelude.{ℕ, ◌+◌, List, [], ◌∷◌, ◌++◌, lengt
 use Rattle.wire.specs.Numbers.{le2}
 use Rattle.annex.specs.declared.Step.{Step}
 use Rattle.fields.specs.declared.Head.{Head}
-use Rattle.codec.specs.Codec.{four_each, frame, head_bytes, step_numbers}
+use Rattle.codec.specs.Codec.{four_each, frame, head_bytes_lem, step_numbers}
 use Rattle.desk_days.specs.Story.{SteppedEvent, stepped_event_in}
 
 -- 16 open: number 2, type 1, voltage 1, cause 1, T0; 13
-abbrev pub open_of : Head → List ℕ
-open_of h = frame 13 16 ++ head_bytes h
+abbrev pub open_of_lem : Head → List ℕ
+open_of_lem h = frame 13 16 ++ head_bytes_lem h
 
 -- 17 step: number 2, ordinal 1, time, 3 counts; 23
 abbrev pub step_of : ℕ → ℕ → Step → List ℕ
@@ -25,7 +25,7 @@ steps_of v taken (st ∷ ss) = step_of v (taken + 1) st ∷ steps_of v (taken + 
 
 -- "a close carries the number of steps taken"
 abbrev pub messages_for : SteppedEvent → List (List ℕ)
-messages_for e = open_of e.head ∷ (steps_of e.head.number 0 e.steps ++ close_of e.head.number (length e.steps) ∷ [])
+messages_for e = open_of_lem e.head ∷ (steps_of e.head.number 0 e.steps ++ close_of e.head.number (length e.steps) ∷ [])
 
 -- the messages of the event that a record of kind 3 tells
 abbrev pub messages_of : List ℕ → List (List ℕ)

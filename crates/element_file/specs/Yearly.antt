@@ -1,7 +1,7 @@
 -- "A yearly element file, framed like the book and starting with a year sheet" (02, K1), taken record by record; a broken length (2) ends that
 -- file's reading.
 use Rattle.std.specs.Prelude.{ℕ, ◌+◌, ◌≡◌, List, [], ◌∷◌, false, cond}
-use Rattle.wire.specs.Cut.{records_of, stop_from, ends_by}
+use Rattle.wire.specs.Cut.{records_of, stop_from, ends_by_lem}
 use Rattle.records.specs.Records as records
 use Rattle.records.specs.Records.{one_if_refused, is_broken}
 use Rattle.element_table.specs.declared.Table.{Table}
@@ -36,7 +36,7 @@ pass_of t bytes =
       table = (after_records t bytes).table;
       refused = (after_records t bytes).refused;
       stop = stop_from bytes 0;
-      which = ends_by bytes;
+      which = ends_by_lem bytes;
     }
 
 -- a file is begun, which clears the sheet-seen mark, and its records are taken

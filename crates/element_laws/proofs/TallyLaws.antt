@@ -24,7 +24,7 @@ use Rattle.element_row.specs.declared.Row.{Row}
 use Rattle.element_table.specs.declared.Table.{Table}
 use Rattle.element_table.specs.Table.{row_or, sound_table}
 use Rattle.element_rules.specs.Fields.{code_in, start_in, end_in, unit_in, amount_in}
-use Rattle.element_table.specs.Rules.{row_named, length_wrong, not_listed, time_wrong, rules, rules_at, answer_of}
+use Rattle.element_table.specs.Rules.{row_named, length_wrong, not_listed_lem, time_wrong, rules, rules_at, answer_of}
 use Rattle.element_row.specs.Row.{with_outage, with_stock, most_outages}
 use Rattle.element_table.specs.Take.{table_after}
 use Rattle.element_table.proofs.BoundLaws.{sound_row}
@@ -61,8 +61,8 @@ fitting_listed : (s : List ℕ) → Fitting s → element_listed (code_in s) ≡
 fitting_listed s fit = go fit.kind
   where
     go : (kind_of s ≡ 4) ⊎ (kind_of s ≡ 5) → element_listed (code_in s) ≡ true
-    go (inl k) = not-false _ (ap (λ n. not_listed n s) (sym k) ∙ fit.listed)
-    go (inr k) = not-false _ (or_left (not (element_listed (code_in s))) (ltb 1 (unit_in s)) (ap (λ n. not_listed n s) (sym k) ∙ fit.listed))
+    go (inl k) = not-false _ (ap (λ n. not_listed_lem n s) (sym k) ∙ fit.listed)
+    go (inr k) = not-false _ (or_left (not (element_listed (code_in s))) (ltb 1 (unit_in s)) (ap (λ n. not_listed_lem n s) (sym k) ∙ fit.listed))
 
 fitting_row : (s : List ℕ) → Fitting s → row_of (code_in s) < 62
 fitting_row s fit = listed_row (code_in s) (fitting_listed s fit)
@@ -143,7 +143,7 @@ module _ (t : Table) (s : List ℕ) (ready : Ready t) where
                 (
                   refl,
                   (
-                    ap (λ j. not_listed j s) (sym k) ∙ fit.listed,
+                    ap (λ j. not_listed_lem j s) (sym k) ∙ fit.listed,
                     (
                       ap (λ j. time_wrong j s) (sym k) ∙ fit.timely,
                       (lt-leb most_outages (row_named t s).outages (omega (arith, there.room (row_of (code_in s)) l, one)), tt),
@@ -165,7 +165,7 @@ module _ (t : Table) (s : List ℕ) (ready : Ready t) where
                 or_both _ _ (ap not ready.seen) (untold (ltb 0 (row_named t s).stock) none),
                 (
                   refl,
-                  (ap (λ j. not_listed j s) (sym k) ∙ fit.listed, (refl, (refl, tt))),
+                  (ap (λ j. not_listed_lem j s) (sym k) ∙ fit.listed, (refl, (refl, tt))),
                 ),
               ),
             ),

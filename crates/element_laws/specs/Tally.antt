@@ -9,7 +9,7 @@ use Rattle.element_row.specs.Row.{most_outages}
 use Rattle.element_table.specs.declared.Table.{Table}
 use Rattle.element_table.specs.Table.{row_or}
 use Rattle.element_rules.specs.Fields.{code_in, start_in, end_in, unit_in, amount_in}
-use Rattle.element_table.specs.Rules.{unframed, length_wrong, not_listed, time_wrong}
+use Rattle.element_table.specs.Rules.{unframed, length_wrong, not_listed_lem, time_wrong}
 
 -- a record that tells an outage, or the stock, of the element of a row
 abbrev pub is_outage : ℕ → List ℕ → Bool
@@ -52,7 +52,7 @@ pub record Fitting (s : List ℕ) : Type 0 where
   pub framed : unframed s ≡ false
   pub kind : (kind_of s ≡ 4) ⊎ (kind_of s ≡ 5)
   pub size : length_wrong (kind_of s) s ≡ false
-  pub listed : not_listed (kind_of s) s ≡ false
+  pub listed : not_listed_lem (kind_of s) s ≡ false
   pub timely : time_wrong (kind_of s) s ≡ false
 
 -- of all records together, at a table: each fits, each element's stock is told at most once, and no element comes to more than 65,535 outages

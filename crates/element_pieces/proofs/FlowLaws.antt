@@ -8,7 +8,7 @@ use mathlib.Core.List.{List}
 use lib.ListN.{length, take, length-take}
 use borrow.Author.Tests.{ne_eqb}
 use Rattle.wire.specs.Cut.{records_of, stop_from}
-use Rattle.records.specs.Pieces.{most_refused, dead_rest, moved, Held, held_after, held_on, buffer_on}
+use Rattle.records.specs.Pieces.{most_refused, dead_rest, moved, Held, held_after, held_on_lem, buffer_on}
 use Rattle.records.proofs.AnswerLaws.{piece_clear}
 use Rattle.records.proofs.HeldLaws.{on_dead, on_more}
 use Rattle.element_table.specs.Table.{sound_table}
@@ -31,7 +31,7 @@ module _ (f : Inflow) (b : List ℕ) (filled : ℕ) where
 
   module _ (a : flow_answer f b filled ≡ 0) where
     -- a piece that is not refused: the reading goes on
-    pub flowed_on : Comes (record { answer = 0; flow = flow_of (held_on take_record (reading_of f) b filled) }) (buffer_on (reading_of f) b filled)
+    pub flowed_on : Comes (record { answer = 0; flow = flow_of (held_on_lem take_record (reading_of f) b filled) }) (buffer_on (reading_of f) b filled)
     unfolding flowed_of buffer_after
     flowed_on = (sym (rw a), sym (rw a))
 
@@ -81,7 +81,7 @@ module _ (f : Inflow) (b : List ℕ) (filled : ℕ) where
         (moved b (stop_from (take filled b) 0) filled)
     flow_taken d =
         let e = on_more take_record (reading_of f) b filled d in
-        let h : _ ≡ held_on take_record (reading_of f) b filled =
+        let h : _ ≡ held_on_lem take_record (reading_of f) b filled =
         (λ i.
         record {
           state = sym ran_is i;

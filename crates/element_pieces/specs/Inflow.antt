@@ -1,6 +1,6 @@
 -- An element table "fed one or more yearly files" (02, K1), each of any length, in constant memory: a file taken in pieces.
 use Rattle.std.specs.Prelude.{ℕ, ◌+◌, List, true, false, cond, length, eqb}
-use Rattle.records.specs.Pieces.{Held, held_on, buffer_on, end_answer, piece_answer}
+use Rattle.records.specs.Pieces.{Held, held_on_lem, buffer_on, end_answer, piece_answer}
 use Rattle.records.specs.Calls.{Taker}
 use Rattle.element_table.specs.declared.Table.{Table}
 use Rattle.element_table.specs.Table.{sound_table, file_begun}
@@ -35,7 +35,7 @@ unfoldable pub flowed_of : Inflow → List ℕ → ℕ → Flowed
 flowed_of f b filled =
     record {
       answer = flow_answer f b filled;
-      flow = cond (eqb (flow_answer f b filled) 0) (flow_of (held_on take_record (reading_of f) b filled)) f;
+      flow = cond (eqb (flow_answer f b filled) 0) (flow_of (held_on_lem take_record (reading_of f) b filled)) f;
     }
 
 unfoldable pub buffer_after : Inflow → List ℕ → ℕ → List ℕ

@@ -18,7 +18,7 @@ use Rattle.element_codes.specs.Elements.{element_listed}
 use Rattle.element_row.specs.Row.{most_outages}
 use Rattle.element_table.specs.declared.Table.{Table}
 use Rattle.element_rules.specs.Fields.{code_in, start_in, end_in, unit_in}
-use Rattle.element_table.specs.Rules.{by_kind, row_named, unframed, kind_not_taken, length_wrong, out_of_place, sheet_out_of_range, not_listed, time_wrong, code_full}
+use Rattle.element_table.specs.Rules.{by_kind, row_named, unframed, kind_not_taken, length_wrong, out_of_place, sheet_out_of_range, not_listed_lem, time_wrong, code_full}
 
 -- what is said of a year sheet, of an element outage and of a stock
 abbrev pub OfKind : ℕ → Type 0 → Type 0 → Type 0 → Type 0
@@ -149,7 +149,7 @@ module _ (kind : ℕ) (s : List ℕ) where
 
   -- 7: "an unknown element or a stock byte that is neither"
   pub says_7 :
-      (not_listed kind s ≡ true) ↔
+      (not_listed_lem kind s ≡ true) ↔
       OfKind kind ⊥ (element_listed (code_in s) ≡ false) ((element_listed (code_in s) ≡ false) ⊎ (1 < unit_in s))
   says_7 =
       of_kind false (not (element_listed (code_in s))) (not (element_listed (code_in s)) || ltb 1 (unit_in s)) kind

@@ -41,8 +41,8 @@ abbrev pub sheet_out_of_range : ℕ → List ℕ → Bool
 sheet_out_of_range kind s = by_kind kind (not (in_range (sheet_in s))) false false
 
 -- 7: "an unknown element or a stock byte that is neither"
-abbrev pub not_listed : ℕ → List ℕ → Bool
-not_listed kind s = by_kind kind false (not (element_listed (code_in s))) (not (element_listed (code_in s)) || ltb 1 (unit_in s))
+abbrev pub not_listed_lem : ℕ → List ℕ → Bool
+not_listed_lem kind s = by_kind kind false (not (element_listed (code_in s))) (not (element_listed (code_in s)) || ltb 1 (unit_in s))
 
 -- 10: "an end before its start or a time over 600,000"
 abbrev pub time_wrong : ℕ → List ℕ → Bool
@@ -59,7 +59,7 @@ rules_at kind s t =
     (4, length_wrong kind s) ∷
     (5, out_of_place kind s t) ∷
     (6, sheet_out_of_range kind s) ∷
-    (7, not_listed kind s) ∷
+    (7, not_listed_lem kind s) ∷
     (10, time_wrong kind s) ∷
     (15, code_full kind s t) ∷ []
 

@@ -28,7 +28,7 @@ use Rattle.index.specs.declared.Answer.TheVariants.{Is, Refused}
 use Rattle.index.specs.Sums.{customers_of}
 use Rattle.index.specs.Index.{above_of, divisor_of, weight_of, index_of}
 use Rattle.index.proofs.IndexLaws.{nobody_refused, somebody_answered}
-use Rattle.law_adding.specs.Parts.{each_level, over_each, times_n}
+use Rattle.law_adding.specs.Parts.{each_level_lem, over_each, times_n}
 use Rattle.law_adding.specs.Adding.{total_held, NobodyOff, LevelsWeigh}
 use Rattle.law_adding.proofs.BookLaws.{served_by_sheet}
 use Rattle.law_adding.proofs.TotalLaws.{levels_add}
@@ -73,13 +73,13 @@ module _ (w : ℕ) (exists : w ≡ 0 → ⊥) where
       (answer : Level → Answer) (top n : Level → ℕ) →
       ((h : Level) → (n h ≡ 0 → ⊥) → answer h ≡ Is (lowest_of (top h) (w * n h))) →
       ((h : Level) → n h ≡ 0 → (answer h ≡ Refused 17) × (top h ≡ 0)) →
-      top Network ≡ sum (map top each_level) →
+      top Network ≡ sum (map top each_level_lem) →
       ((over_each (λ (h : Level). times_n (answer h) (n h))).bottom ≡ 0 → ⊥) ×
       Same (times_n (answer Network) (n Network)) (over_each (λ (h : Level). times_n (answer h) (n h)))
   all_shares answer top n some none e = (
-    all_exist each (λ h. share_exists (answer h) (top h) (n h) (some h) (none h)) each_level,
+    all_exist each (λ h. share_exists (answer h) (top h) (n h) (some h) (none h)) each_level_lem,
     same_transitive (each Network) (over_n w exists (top Network)) (over_each each) (is_share Network)
-        (subst (λ (t : ℕ). Same (over_n w exists t) (over_each each)) (sym e) (all_add w exists top each is_share each_level))
+        (subst (λ (t : ℕ). Same (over_n w exists t) (over_each each)) (sym e) (all_add w exists top each is_share each_level_lem))
         exists,
   )
     where

@@ -86,11 +86,11 @@ plus_all [] = whole 0
 plus_all (f ∷ fs) = plus f (plus_all fs)
 
 -- Σ from h = NN to h = VVN, of fractions
-abbrev pub each_level : List Level
-each_level = NN ∷ VN ∷ VVN ∷ []
+abbrev pub each_level_lem : List Level
+each_level_lem = NN ∷ VN ∷ VVN ∷ []
 
 abbrev pub over_each : (Level → Fraction) → Fraction
-over_each f = plus_all (map f each_level)
+over_each f = plus_all (map f each_level_lem)
 
 -- an index times N; an index that is refused, as with an N of 0, adds nothing
 abbrev pub times_n : Answer → ℕ → Fraction

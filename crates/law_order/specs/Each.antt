@@ -8,7 +8,7 @@ use Rattle.codes.specs.Ranges.{most_events}
 use Rattle.used_numbers.specs.Marks.{marked}
 use Rattle.fields.specs.declared.Sheet.{Sheet}
 use Rattle.fields.specs.Fields.{sheet_in}
-use Rattle.record.specs.Rules.{unframed, kind_not_taken, length_wrong, sheet_missing_or_second, sheet_out_of_range, not_listed, time_wrong, count_too_large, count_too_high, some_after_none}
+use Rattle.record.specs.Rules.{unframed, kind_not_taken, length_wrong, sheet_missing_or_second, sheet_out_of_range, not_listed_lem, time_wrong, count_too_large, count_too_high, some_after_none}
 use Rattle.ledger.specs.declared.Ledger.{Ledger}
 use Rattle.ledger.specs.Ledger.{empty_ledger, added}
 use Rattle.law_sums.specs.Accepted.{zero_map, event_at, number_in}
@@ -20,7 +20,7 @@ pub record Right (sheet : Sheet) (s : List ℕ) : Type 0 where
   pub size : length_wrong (kind_of s) s ≡ false
   pub there : sheet_missing_or_second (kind_of s) sheet ≡ false
   pub range : sheet_out_of_range (kind_of s) s ≡ false
-  pub listed : not_listed (kind_of s) s ≡ false
+  pub listed : not_listed_lem (kind_of s) s ≡ false
   pub timely : time_wrong (kind_of s) s sheet ≡ false
   pub few : count_too_large (kind_of s) s sheet ≡ false
   pub low : count_too_high (kind_of s) s ≡ false

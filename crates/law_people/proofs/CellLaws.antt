@@ -14,7 +14,7 @@ use Rattle.annex.specs.Annex.{simple, stepped, njhtjh2, short_event}
 use Rattle.annex.specs.Figure.{Halves, given}
 use Rattle.fields.specs.Fields.{head_in, simple_in, steps_in}
 use Rattle.fields.proofs.TestLaws.{listed_row}
-use Rattle.record.specs.Rules.{not_listed}
+use Rattle.record.specs.Rules.{not_listed_lem}
 use Rattle.ledger.specs.declared.Ledger.{Ledger}
 use Rattle.ledger.specs.Ledger.{cell_of, held_in, Shaped}
 use Rattle.ledger.specs.Take.{ledger_after}
@@ -33,7 +33,7 @@ module _ (l : Ledger) (m s : List ℕ) (c : Counted l m s) where
 
   row_below : row_in s < rows
   row_below =
-      let listed : not_listed 3 s ≡ false = ap (λ kind. not_listed kind s) (sym c.kind) ∙ accepted_rules l m s c.accepted 7 in
+      let listed : not_listed_lem 3 s ≡ false = ap (λ kind. not_listed_lem kind s) (sym c.kind) ∙ accepted_rules l m s c.accepted 7 in
       listed_row (head_in s) (not-false _ listed)
 
   -- taken alone, the record is the one accepted event; its row counts it, and no other row does

@@ -9,7 +9,7 @@ use native.Mathlib.Omega.{arith}
 use native.Mathlib.Numerals.{add-one}
 use borrow.Author.Tests.{ne_eqb}
 use Rattle.wire.specs.Numbers.{le2, le4}
-use Rattle.codec.specs.Codec.{four_each, frame, head_bytes}
+use Rattle.codec.specs.Codec.{four_each, frame, head_bytes_lem}
 use Rattle.text_items.specs.declared.Entry.{Entry}
 use Rattle.text_items.specs.Shape.{whole_of}
 use Rattle.text_items.proofs.ShapeLaws.{whole_sheet, whole_simple, whole_stepped}
@@ -54,7 +54,7 @@ pub fours_none : (s : Spot) (k count : ℕ) (vs : List ℕ) → min count (lengt
 fours_none s k count vs h = ap (λ (l : List ℕ). pushed_all s (four_each l)) (left_none k count vs h)
 
 -- an event's head is among its numbers
-head_taken : (count : ℕ) (vs : List ℕ) → 5 ≤ count → head_bytes (head_of vs) ≡ head_bytes (head_of (take count vs))
+head_taken : (count : ℕ) (vs : List ℕ) → 5 ≤ count → head_bytes_lem (head_of vs) ≡ head_bytes_lem (head_of (take count vs))
 head_taken count vs h =
     rw (
       get_or-take count vs 0 0 (omega arith),
@@ -76,25 +76,25 @@ sheet_laid s count vs h = rw (get_or-take count vs 0 0 h) refl
 pub simple_laid :
     (s : Spot) (count : ℕ) (vs : List ℕ) →
     5 ≤ count →
-    pushed_all (pushed_all (pushed_all s (frame 53 2)) (head_bytes (head_of vs))) (four_each (drop 5 (take count vs))) ≡ pushed_all s (simple_bytes (take count vs))
+    pushed_all (pushed_all (pushed_all s (frame 53 2)) (head_bytes_lem (head_of vs))) (four_each (drop 5 (take count vs))) ≡ pushed_all s (simple_bytes (take count vs))
 unfolding simple_bytes
 simple_laid s count vs h =
     let f = pushed_all s (frame 53 2) in
     let left = four_each (drop 5 (take count vs)) in
-    ap (λ (l : List ℕ). pushed_all (pushed_all f l) left) (head_taken count vs h) ∙ sym (pushed_all_append f (head_bytes (head_of (take count vs))) left)
+    ap (λ (l : List ℕ). pushed_all (pushed_all f l) left) (head_taken count vs h) ∙ sym (pushed_all_append f (head_bytes_lem (head_of (take count vs))) left)
 
 pub stepped_laid :
     (s : Spot) (count : ℕ) (vs : List ℕ) →
     5 ≤ count →
     count ≤ length vs →
-    pushed_all (pushed (pushed_all (pushed_all s (frame (14 + 16 * ((count - 5) / 4)) 3)) (head_bytes (head_of vs))) ((count - 5) / 4)) (four_each (drop 5 (take count vs)))
+    pushed_all (pushed (pushed_all (pushed_all s (frame (14 + 16 * ((count - 5) / 4)) 3)) (head_bytes_lem (head_of vs))) ((count - 5) / 4)) (four_each (drop 5 (take count vs)))
     ≡ pushed_all s (stepped_bytes (take count vs))
 unfolding stepped_bytes
 stepped_laid s count vs h g =
     let steps : (count - 5) / 4 ≡ steps_of (take count vs) = ap (λ (n : ℕ). (n - 5) / 4) (sym (length-take-le count vs g)) in
     let left = four_each (drop 5 (take count vs)) in
     (λ i. pushed_all (pushed (pushed_all (pushed_all s (frame (14 + 16 * steps i) 3)) (head_taken count vs h i)) (steps i)) left)
-    ∙ sym (pushed_all_append (pushed_all s (frame (14 + 16 * steps_of (take count vs)) 3)) (head_bytes (head_of (take count vs))) (steps_of (take count vs) ∷ left))
+    ∙ sym (pushed_all_append (pushed_all s (frame (14 + 16 * steps_of (take count vs)) 3)) (head_bytes_lem (head_of (take count vs))) (steps_of (take count vs) ∷ left))
 
 -- the bytes of an entry that is not whole, and of one that is
 pub packed_none : (e : Entry) → whole_of e.kind e.count ≡ false → packed_of e ≡ []

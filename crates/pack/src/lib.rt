@@ -2,7 +2,7 @@
 ghost use Rattle.std.specs.Prelude.{◌≡◌, ◌≤◌, take, drop};
 ghost use Rattle.pen.specs.Pen.{spot, pushed_all};
 ghost use Rattle.pack.specs.Pack.{one_each, head_of, packed_of};
-ghost use Rattle.codec.specs.Codec.{four_each, head_bytes};
+ghost use Rattle.codec.specs.Codec.{four_each, head_bytes_lem};
 
 use text_items::Entry;
 
@@ -48,7 +48,7 @@ fn put_frame(out: &mut [u8], at: usize, length: u32, kind: u32) -> usize
 
 // An event's number, type, voltage, cause and T0.
 fn put_head(out: &mut [u8], at: usize, values: [u32; 261]) -> usize
-    ensures { spot out.new result ≡ pushed_all (spot out.old at) (head_bytes (head_of values)) }
+    ensures { spot out.new result ≡ pushed_all (spot out.old at) (head_bytes_lem (head_of values)) }
 {
     let typ = pen::put_le2(out, at, values[0]);
     let voltage = pen::put(out, typ, (values[1] % 256) as u8);

@@ -12,12 +12,12 @@ use borrow.Author.Tests.{leb-true, leb-false, ltb-true, ltb-false, eqb-true, eqb
 use Rattle.base.proofs.TestLaws.{Tested, holds, fails, test}
 use Rattle.wire.specs.Numbers.{le16}
 use Rattle.wire.specs.Book.{place_at, part_of, which_of, which_at, start_of, end_of, record_at, after_at}
-use Rattle.wire.specs.Cut.{records_of, records_from, stop_from, ends_by, joined}
+use Rattle.wire.specs.Cut.{records_of, records_from, stop_from, ends_by_lem, joined}
 use Rattle.wire.specs.declared.Place.{Place}
 use Rattle.wire.specs.declared.Place.TheVariants.{Record, End, Broken}
 use Rattle.wire.proofs.PlaceLaws.{at_end, at_short, at_small, at_long, at_record}
 use Rattle.wire.proofs.CutLaws.{records_is, records_stop, passed, halted}
-use Rattle.reader.specs.Reader.{NoneLeft, BrokenLength, WholeRecord, asked, stopped, stands_after}
+use Rattle.reader.specs.Reader.{NoneLeft, BrokenLength, WholeRecord, asked, stopped, stands_after_lem}
 
 -- what stands at an offset, in document 01's words
 data Stood (book : List ℕ) (at : ℕ) : Type 0 where
@@ -153,8 +153,8 @@ module _ (book : List ℕ) (at : ℕ) where
     unfolding stopped
     stopped_none h = simp (ne_eqb (which_at book at) 0 h)
 
-    stands_on : stands_after (suc n) book at ≡ stands_after n book (after_at book at)
-    unfolding stands_after
+    stands_on : stands_after_lem (suc n) book at ≡ stands_after_lem n book (after_at book at)
+    unfolding stands_after_lem
     stands_on = refl
 
 module _ (book : List ℕ) where
@@ -189,7 +189,7 @@ module _ (book : List ℕ) where
   asks_the_cut n enough = (asks_from n 0 (omega arith)).0 ∙ records_is book
 
   -- and leaves the reader where no record stands
-  pub asks_to_the_stop : (n : ℕ) → length book ≤ n → (stopped n book 0 ≡ stop_from book 0) × (which_at book (stopped n book 0) ≡ ends_by book)
+  pub asks_to_the_stop : (n : ℕ) → length book ≤ n → (stopped n book 0 ≡ stop_from book 0) × (which_at book (stopped n book 0) ≡ ends_by_lem book)
   asks_to_the_stop n enough = let e : stopped n book 0 ≡ stop_from book 0 = (asks_from n 0 (omega arith)).1 in (e, ap (which_at book) e)
 
   ends_by_lem : (at : ℕ) → (place_at book at ≡ End) ⊎ (place_at book at ≡ Broken) → (which_at book at ≡ 1) ⊎ (which_at book at ≡ 2)
@@ -239,16 +239,16 @@ module _ (book : List ℕ) where
   stopped_stays zero at h = refl
   stopped_stays (suc n) at h = stopped_none book at n h
 
-  on_turn : (n at : ℕ) → ((e : ℕ) → stands_after n book e ≡ stopped n book e) → Tested (eqb (which_at book at) 0) → stands_after (suc n) book at ≡ stopped (suc n) book at
+  on_turn : (n at : ℕ) → ((e : ℕ) → stands_after_lem n book e ≡ stopped n book e) → Tested (eqb (which_at book at) 0) → stands_after_lem (suc n) book at ≡ stopped (suc n) book at
   on_turn n at ih (holds e) =
       let h : which_at book at ≡ 0 = eqb-true (which_at book at) 0 e in
       stands_on book at n ∙ ih (after_at book at) ∙ sym (stopped_one book at n h)
   on_turn n at ih (fails e) =
       let h : which_at book at ≡ 0 → ⊥ = eqb-false (which_at book at) 0 e in
-      stands_on book at n ∙ ap (stands_after n book) (same_reader book at h).1 ∙ ih at ∙ stopped_stays n at h ∙ sym (stopped_none book at n h)
+      stands_on book at n ∙ ap (stands_after_lem n book) (same_reader book at h).1 ∙ ih at ∙ stopped_stays n at h ∙ sym (stopped_none book at n h)
 
   -- asked n times, whatever it answers, a reader stands where asking until no record is answered, at most n times, leaves it
-  pub asks_on : (n at : ℕ) → stands_after n book at ≡ stopped n book at
-  unfolding stands_after stopped
+  pub asks_on : (n at : ℕ) → stands_after_lem n book at ≡ stopped n book at
+  unfolding stands_after_lem stopped
   asks_on zero at = refl
   asks_on (suc n) at = on_turn n at (asks_on n) (test (eqb (which_at book at) 0))

@@ -27,6 +27,6 @@ stopped zero book at = at
 stopped (suc n) book at = cond (eqb (which_at book at) 0) (stopped n book (after_at book at)) at
 
 -- where the reader stands that is asked n times, whatever it answers
-unfoldable pub stands_after : ℕ → List ℕ → ℕ → ℕ
-stands_after zero book at = at
-stands_after (suc n) book at = stands_after n book (after_at book at)
+unfoldable pub stands_after_lem : ℕ → List ℕ → ℕ → ℕ
+stands_after_lem zero book at = at
+stands_after_lem (suc n) book at = stands_after_lem n book (after_at book at)

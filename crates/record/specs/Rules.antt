@@ -41,8 +41,8 @@ abbrev pub sheet_out_of_range : ℕ → List ℕ → Bool
 sheet_out_of_range kind s = by_kind kind (not (in_range (sheet_in s))) false false
 
 -- 7: "number 0, or a type, voltage or cause not listed"
-abbrev pub not_listed : ℕ → List ℕ → Bool
-not_listed kind s = by_kind kind false (not (head_listed (head_in s))) (not (head_listed (head_in s)))
+abbrev pub not_listed_lem : ℕ → List ℕ → Bool
+not_listed_lem kind s = by_kind kind false (not (head_listed (head_in s))) (not (head_listed (head_in s)))
 
 -- 10: "a time breaks a rule above": "T0 is below the year's length", and the rules of either event
 abbrev pub time_wrong : ℕ → List ℕ → Sheet → Bool
@@ -84,7 +84,7 @@ rules_at kind s sheet m events =
     (4, length_wrong kind s) ∷
     (5, sheet_missing_or_second kind sheet) ∷
     (6, sheet_out_of_range kind s) ∷
-    (7, not_listed kind s) ∷
+    (7, not_listed_lem kind s) ∷
     (10, time_wrong kind s sheet) ∷
     (11, count_too_large kind s sheet) ∷
     (12, count_too_high kind s) ∷

@@ -1,17 +1,17 @@
--- After any run of calls that are answered 0 the pieces that were put in are held, over any reading whose calls go on as `held_on` does. Assumes nothing.
+-- After any run of calls that are answered 0 the pieces that were put in are held, over any reading whose calls go on as `held_on_lem` does. Assumes nothing.
 use mathlib.Core.Path.{◌≡◌}
 use Prim.Native.Nat.{ℕ, ◌≤◌}
 use native.Mathlib.Omega.{arith}
 use mathlib.Core.List.{List, [], ◌∷◌}
 use lib.ListN.{length, take, drop}
-use Rattle.records.specs.Pieces.{Pieces, fed, fed_all, Held, held_on, buffer_on}
+use Rattle.records.specs.Pieces.{Pieces, fed, fed_all, Held, held_on_lem, buffer_on}
 use Rattle.records.specs.Calls.{Call, Taker, piece_of, pieces_of, after_calls, Answered}
 use Rattle.records.proofs.HeldLaws.{Holding, filled_up, held_on_lem}
 
 -- what is asked of a taker's call that is answered 0: the reading goes on, and no more bytes are told than the buffer has
 pub record GoesOn {S F : Type 0} (step : S → List ℕ → S) (t : Taker F) (reading : F → Held S) : Type 0 where
   pub holds : (f : F) → t.holds f ≡ (reading f).held
-  pub next : (f : F) (c : Call) → t.answer f c ≡ 0 → reading (t.next f c) ≡ held_on step (reading f) c.buffer c.filled
+  pub next : (f : F) (c : Call) → t.answer f c ≡ 0 → reading (t.next f c) ≡ held_on_lem step (reading f) c.buffer c.filled
   pub left : (f : F) (c : Call) → t.answer f c ≡ 0 → t.left f c ≡ buffer_on (reading f) c.buffer c.filled
   pub room : (f : F) (c : Call) → t.answer f c ≡ 0 → c.filled ≤ length c.buffer
 

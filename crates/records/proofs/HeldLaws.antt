@@ -14,7 +14,7 @@ use Rattle.wire.specs.Numbers.{le16}
 use Rattle.wire.specs.Cut.{records_of, stop_from, joined}
 use Rattle.wire.proofs.AppendLaws.{stop_within, rest_not_whole, stated_append}
 use Rattle.records.specs.Records.{take_all, is_broken}
-use Rattle.records.specs.Pieces.{rest_of, dead_rest, Pieces, beginning, fed, fed_all, moved, Held, held_after, held_on, buffer_on}
+use Rattle.records.specs.Pieces.{rest_of, dead_rest, Pieces, beginning, fed, fed_all, moved, Held, held_after, held_on_lem, buffer_on}
 use Rattle.records.proofs.TakeLaws.{all_keep}
 use Rattle.records.proofs.PieceLaws.{fed_dead, fed_more, pieces_whole}
 
@@ -112,20 +112,20 @@ module _ {S : Type 0} (step : S → List ℕ → S) where
 
   -- the two ways of a piece that is taken: no record can follow, or its records are taken
   module _ (h : Held S) (b : List ℕ) (filled : ℕ) where
-    pub on_dead : h.dead ≡ true → (held_on step h b filled ≡ h) × (buffer_on h b filled ≡ b)
-    unfolding held_on buffer_on
+    pub on_dead : h.dead ≡ true → (held_on_lem step h b filled ≡ h) × (buffer_on h b filled ≡ b)
+    unfolding held_on_lem buffer_on
     on_dead d = (rw d, rw d)
 
     pub on_more :
         h.dead ≡ false →
-        (held_on step h b filled ≡
+        (held_on_lem step h b filled ≡
         record {
           state = take_all step h.state (records_of (take filled b));
           held = held_after b filled;
           dead = dead_rest (moved b (stop_from (take filled b) 0) filled) (held_after b filled);
         }) ×
         (buffer_on h b filled ≡ moved b (stop_from (take filled b) 0) filled)
-    unfolding held_on buffer_on
+    unfolding held_on_lem buffer_on
     on_more d = (rw d, rw d)
 
   module _ (h : Held S) (b : List ℕ) (filled : ℕ) (p : Pieces S) (on : Holding h b p) (within : h.held ≤ filled) (l : filled ≤ length b) where
@@ -135,7 +135,7 @@ module _ {S : Type 0} (step : S → List ℕ → S) where
     whole : p.rest ++ piece ≡ take filled b
     whole = (λ i. (sym on.rest ∙ sym (take-take h.held filled b within)) i ++ piece) ∙ take-append-drop h.held (take filled b)
 
-    go : Tested h.dead → Holding (held_on step h b filled) (buffer_on h b filled) (fed step p piece)
+    go : Tested h.dead → Holding (held_on_lem step h b filled) (buffer_on h b filled) (fed step p piece)
     go (holds d) =
         let e = on_dead h b filled d in
         coe 1 0 (i. Holding (e.0 i) (e.1 i) (fed step p piece)) (subst (Holding h b) (sym (fed_dead step p piece (sym on.dead ∙ d))) on)
@@ -151,7 +151,7 @@ module _ {S : Type 0} (step : S → List ℕ → S) where
         }))
 
     -- one piece more
-    pub held_on_lem : Holding (held_on step h b filled) (buffer_on h b filled) (fed step p piece)
+    pub held_on_lem : Holding (held_on_lem step h b filled) (buffer_on h b filled) (fed step p piece)
     held_on_lem = go (test h.dead)
 
   -- what each record keeps, a piece keeps, and the buffer keeps its size
@@ -159,13 +159,13 @@ module _ {S : Type 0} (step : S → List ℕ → S) where
     abbrev Fit : Held S → List ℕ → Type 0
     Fit k c = P k.state × (length c ≡ length b)
 
-    fit : P h.state → Tested h.dead → Fit (held_on step h b filled) (buffer_on h b filled)
+    fit : P h.state → Tested h.dead → Fit (held_on_lem step h b filled) (buffer_on h b filled)
     fit p (holds d) = let e = on_dead h b filled d in coe 1 0 (i. Fit (e.0 i) (e.1 i)) (p, refl)
     fit p (fails d) =
         let e = on_more h b filled d in
         coe 1 0 (i. Fit (e.0 i) (e.1 i)) (all_keep step P kept h.state (records_of (take filled b)) p, moved_long b filled l)
 
-    pub stays_fit : P h.state → Fit (held_on step h b filled) (buffer_on h b filled)
+    pub stays_fit : P h.state → Fit (held_on_lem step h b filled) (buffer_on h b filled)
     stays_fit p = fit p (test h.dead)
 
   -- what is held after a piece, where a record can follow it, is below 65,535 bytes
@@ -173,11 +173,11 @@ module _ {S : Type 0} (step : S → List ℕ → S) where
       (h : Held S) (b : List ℕ) (filled : ℕ) →
       filled ≤ length b →
       ((i : ℕ) → get_or b i 0 < 256) →
-      (held_on step h b filled).dead ≡ false →
-      (held_on step h b filled).held < 65535
+      (held_on_lem step h b filled).dead ≡ false →
+      (held_on_lem step h b filled).held < 65535
   held_room h b filled l bytes after = room (test h.dead)
     where
-      room : Tested h.dead → (held_on step h b filled).held < 65535
+      room : Tested h.dead → (held_on_lem step h b filled).held < 65535
       room (holds d) = absurd (true≢false (sym (ap (λ (k : Held S). k.dead) (on_dead h b filled d).0 ∙ d) ∙ after))
       room (fails d) =
           let e = (on_more h b filled d).0 in

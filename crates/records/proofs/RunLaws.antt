@@ -7,7 +7,7 @@ use lib.ListN.{length}
 use native.Mathlib.Omega.{arith}
 use Rattle.wire.specs.declared.Stand.{Stand}
 use Rattle.wire.specs.Book.{place_at, stand_of, which_at, record_at, after_at, part_of}
-use Rattle.wire.specs.Cut.{records_of, records_from, stop_from, ends_by}
+use Rattle.wire.specs.Cut.{records_of, records_from, stop_from, ends_by_lem}
 use Rattle.wire.proofs.CutLaws.{records_is, passed, halted, starts_there}
 use Rattle.records.specs.Records.{take_all}
 
@@ -75,7 +75,7 @@ module _ {S : Type 0} (step : S → List ℕ → S) (refused : S → ℕ) (st₀
 
     -- where no record stands the run is over
     pub going_ends :
-        (stand.which ≡ 0 → ⊥) → (st ≡ take_all step st₀ (records_of bytes)) × (stand.start ≡ stop_from bytes 0) × (stand.which ≡ ends_by bytes)
+        (stand.which ≡ 0 → ⊥) → (st ≡ take_all step st₀ (records_of bytes)) × (stand.start ≡ stop_from bytes 0) × (stand.which ≡ ends_by_lem bytes)
     going_ends over =
         let h = halted bytes stand.start (λ z. over (sym which_here ∙ z)) in
         let at : stand.start ≡ stop_from bytes 0 = sym h.1 ∙ g.stop in

@@ -46,8 +46,8 @@ abbrev pub held_after : List ℕ → ℕ → ℕ
 held_after b filled = filled - stop_from (take filled b) 0
 
 -- with the records of the first `filled` bytes of a buffer taken, and the buffer with what they leave over at its front
-unfoldable pub held_on : {S : Type 0} → (S → List ℕ → S) → Held S → List ℕ → ℕ → Held S
-held_on step h b filled =
+unfoldable pub held_on_lem : {S : Type 0} → (S → List ℕ → S) → Held S → List ℕ → ℕ → Held S
+held_on_lem step h b filled =
     cond h.dead h
     (record {
       state = take_all step h.state (records_of (take filled b));

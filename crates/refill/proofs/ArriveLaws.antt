@@ -9,7 +9,7 @@ use lib.ListN.{length, take, drop, length-append, length-take, length-drop}
 use borrow.Author.Tests.{eqb-true, eqb-false}
 use Rattle.base.proofs.TestLaws.{Tested, holds, fails, test}
 use Rattle.wire.specs.Cut.{joined}
-use Rattle.records.specs.Pieces.{beginning, fed_all, Held, held_on, buffer_on}
+use Rattle.records.specs.Pieces.{beginning, fed_all, Held, held_on_lem, buffer_on}
 use Rattle.records.specs.Calls.{Call, Taker}
 use Rattle.records.proofs.CallLaws.{GoesOn}
 use Rattle.records.proofs.HeldLaws.{Holding, begins_holding, filled_up, held_on_lem, fed_last}
@@ -46,13 +46,13 @@ module _ {S : Type 0} (step : S → List ℕ → S) where
       short : length piece ≤ room
       short = omega (arith, length-drop h.held (take r.count b₁), length-take r.count b₁, on.long, small)
 
-      pub arrives_piece : Arrived step st (held_on step h b₁ r.count) (buffer_on h b₁ r.count) (turns + 1)
+      pub arrives_piece : Arrived step st (held_on_lem step h b₁ r.count) (buffer_on h b₁ r.count) (turns + 1)
       arrives_piece =
           let p = fed_all step (beginning st) a.pieces in
           record {
             pieces = a.pieces ++ (piece ∷ []);
             holds =
-                subst⁻¹ (Holding step (held_on step h b₁ r.count) (buffer_on h b₁ r.count)) (fed_last step (beginning st) a.pieces piece)
+                subst⁻¹ (Holding step (held_on_lem step h b₁ r.count) (buffer_on h b₁ r.count)) (fed_last step (beginning st) a.pieces piece)
                 (held_on_lem step h b₁ r.count p lent (omega (arith, on.behind came)) (on.within came));
             few = omega (arith, a.few, ap length (joined_last a.pieces piece), length-append (joined a.pieces) piece, short);
           }

@@ -283,8 +283,8 @@ module _ (answer at kind count : ℕ) (values : List ℕ) where
     ended_whole e = passed_over _ _ (not (eqb answer 255)) (ap not ended) ∙ passed_over _ _ (not (whole_of kind count)) (ap not e)
 
 -- the outcome of a line of which k items are read, where the rest from a place on has n turns left
-unfoldable pub going_on : ℕ → List ℕ → ℕ → ℕ → ℕ → ℕ → ℕ → List ℕ → Parsed
-going_on n line at kind k year sep values =
+unfoldable pub going_on_lem : ℕ → List ℕ → ℕ → ℕ → ℕ → ℕ → ℕ → List ℕ → Parsed
+going_on_lem n line at kind k year sep values =
     ended_by
     (end_from n (drop at line) kind k year sep).answer
     (at + (end_from n (drop at line) kind k year sep).used)
@@ -296,20 +296,20 @@ module _ (line : List ℕ) (at kind k year sep : ℕ) (values : List ℕ) where
   abbrev field_at : Found
   field_at = next_cell (drop at line) kind k year sep
 
-  last_here : going_on zero line at kind k year sep values ≡ ended_by field_at.answer (at + field_at.used) kind k values
-  unfolding going_on values_from end_from
+  last_here : going_on_lem zero line at kind k year sep values ≡ ended_by field_at.answer (at + field_at.used) kind k values
+  unfolding going_on_lem values_from end_from
   last_here = let e : k + 0 ≡ k = omega arith in ap (λ (n : ℕ). ended_by field_at.answer (at + field_at.used) kind n values) e
 
-  ends_here_lem : (n : ℕ) → eqb field_at.answer 0 ≡ false → going_on (suc n) line at kind k year sep values ≡ ended_by field_at.answer (at + field_at.used) kind k values
-  unfolding going_on
+  ends_here_lem : (n : ℕ) → eqb field_at.answer 0 ≡ false → going_on_lem (suc n) line at kind k year sep values ≡ ended_by field_at.answer (at + field_at.used) kind k values
+  unfolding going_on_lem
   ends_here_lem n e =
       let v = none_left n (drop at line) kind k year sep e in
       let f = end_here n (drop at line) kind k year sep e in
       let z : k + 0 ≡ k = omega arith in
       (λ i. ended_by (f i).answer (at + (f i).used) kind (k + length (v i)) (sets values k (v i))) ∙ ap (λ (m : ℕ). ended_by field_at.answer (at + field_at.used) kind m values) z
 
-  goes_on : (n : ℕ) → eqb field_at.answer 0 ≡ true → going_on (suc n) line at kind k year sep values ≡ going_on n line (at + field_at.used) kind (k + 1) year sep (set values k field_at.value)
-  unfolding going_on
+  goes_on : (n : ℕ) → eqb field_at.answer 0 ≡ true → going_on_lem (suc n) line at kind k year sep values ≡ going_on_lem n line (at + field_at.used) kind (k + 1) year sep (set values k field_at.value)
+  unfolding going_on_lem
   goes_on n e =
       let r : List ℕ = drop field_at.used (drop at line) in
       let d : r ≡ drop (at + field_at.used) line = drop-drop field_at.used at line in
@@ -330,15 +330,15 @@ module _ (line : List ℕ) (at kind k year sep : ℕ) (values : List ℕ) (f : F
   answer_is t e = sym (ap (λ (r : Found). eqb r.answer 0) is) ∙ e
 
   -- with no turn left, or where the item is not there, the line is ended by what is said of the item, with the k items so far
-  pub going_last : going_on zero line at kind k year sep values ≡ ended_by f.answer (at + f.used) kind k values
+  pub going_last : going_on_lem zero line at kind k year sep values ≡ ended_by f.answer (at + f.used) kind k values
   going_last = last_here line at kind k year sep values ∙ sym (ap (λ (r : Found). ended_by r.answer (at + r.used) kind k values) is)
 
-  pub going_ends : (n : ℕ) → eqb f.answer 0 ≡ false → going_on (suc n) line at kind k year sep values ≡ ended_by f.answer (at + f.used) kind k values
+  pub going_ends : (n : ℕ) → eqb f.answer 0 ≡ false → going_on_lem (suc n) line at kind k year sep values ≡ ended_by f.answer (at + f.used) kind k values
   going_ends n e = ends_here_lem line at kind k year sep values n (answer_is false e) ∙ sym (ap (λ (r : Found). ended_by r.answer (at + r.used) kind k values) is)
 
   -- where the item is there its number is the k-th, and the line goes on behind it with a turn fewer
-  pub going_on_lem : (n : ℕ) → eqb f.answer 0 ≡ true → going_on (suc n) line at kind k year sep values ≡ going_on n line (at + f.used) kind (k + 1) year sep (set values k f.value)
-  going_on_lem n e = goes_on line at kind k year sep values n (answer_is true e) ∙ sym (ap (λ (r : Found). going_on n line (at + r.used) kind (k + 1) year sep (set values k r.value)) is)
+  pub going_on_lem : (n : ℕ) → eqb f.answer 0 ≡ true → going_on_lem (suc n) line at kind k year sep values ≡ going_on_lem n line (at + f.used) kind (k + 1) year sep (set values k f.value)
+  going_on_lem n e = goes_on line at kind k year sep values n (answer_is true e) ∙ sym (ap (λ (r : Found). going_on_lem n line (at + r.used) kind (k + 1) year sep (set values k r.value)) is)
 
   -- the item, with the gap before it, takes no more bytes than are left of the line
   pub going_short : at + f.used ≤ at + (length line - at)
@@ -363,13 +363,13 @@ put_over n vs h =
     sets-eq vs (zeros n) 0 g ∙ ap (λ (l : List ℕ). vs ++ l) (ap (λ (m : ℕ). drop m (zeros n)) z ∙ zeros_left (length vs) n)
 
 -- at the start no item is read
-starts_from : (n : ℕ) (line : List ℕ) (start kind year sep : ℕ) → going_on n line start kind 0 year sep (zeros n) ≡ ended_by
+starts_from : (n : ℕ) (line : List ℕ) (start kind year sep : ℕ) → going_on_lem n line start kind 0 year sep (zeros n) ≡ ended_by
     (end_from n (drop start line) kind 0 year sep).answer
     (start + (end_from n (drop start line) kind 0 year sep).used)
     kind
     (length (values_from n (drop start line) kind 0 year sep))
     (values_from n (drop start line) kind 0 year sep ++ zeros (n - length (values_from n (drop start line) kind 0 year sep)))
-unfolding going_on
+unfolding going_on_lem
 starts_from n line start kind year sep =
     let vs = values_from n (drop start line) kind 0 year sep in
     let l = end_from n (drop start line) kind 0 year sep in
@@ -378,7 +378,7 @@ starts_from n line start kind year sep =
     λ i. ended_by l.answer (start + l.used) kind (z i) (p i)
 
 -- the items of a line are gathered in 261 turns from their start on, over 261 zeros
-pub going_starts : (line : List ℕ) (start kind year sep : ℕ) → gathered line start kind year sep ≡ going_on 261 line start kind 0 year sep (replicate 261 0)
+pub going_starts : (line : List ℕ) (start kind year sep : ℕ) → gathered line start kind year sep ≡ going_on_lem 261 line start kind 0 year sep (replicate 261 0)
 unfolding gathered
 going_starts line start kind year sep = sym (starts_from 261 line start kind year sep)
 

@@ -14,7 +14,7 @@ use borrow.Author.Tests.{le-leb, lt-leb, eq-eqb, ne_eqb, leb-true, leb-false, eq
 use Rattle.base.proofs.TestLaws.{Tested, holds, fails, test, and_left, and_right, and_both}
 use Rattle.wire.specs.Numbers.{le16}
 use Rattle.wire.specs.Book.{which_of, which_at, after_at}
-use Rattle.wire.specs.Cut.{whole_in_front, cut_in, records_of, stop_from, ends_by, joined}
+use Rattle.wire.specs.Cut.{whole_in_front, cut_in, records_of, stop_from, ends_by_lem, joined}
 use Rattle.wire.specs.declared.Place.{Place}
 use Rattle.wire.proofs.PlaceLaws.{at_end}
 use Rattle.wire.proofs.CutLaws.{Stopped, records_joined, records_stop, records_whole, passed, halted}
@@ -99,7 +99,7 @@ module _ (book : List ℕ) where
       ap (λ (k : ℕ). drop k book) size ∙ sym (drop-drop more n book) ∙ sym (rest_by_records (drop n book))
 
   -- no byte is left over exactly where no broken length ends the reading
-  rest_at : Stopped book (stop_from book 0) → eqb (length (drop (stop_from book 0) book)) 0 ≡ not (eqb (ends_by book) 2)
+  rest_at : Stopped book (stop_from book 0) → eqb (length (drop (stop_from book 0) book)) 0 ≡ not (eqb (ends_by_lem book) 2)
   rest_at (inl end) =
       let all : length (drop (stop_from book 0) book) ≡ 0 =
       ap length (rest_by_records book ∙ ap (λ (xs : List ℕ). drop (length xs) book) (records_whole book end) ∙ drop-length book) in
@@ -112,7 +112,7 @@ module _ (book : List ℕ) where
       ap (λ (p : Place). not (eqb (which_of p) 2)) (sym broken)
 
   -- nothing is left over exactly where no broken length ends the reading
-  pub rest_ends : eqb (length (drop (stop_from book 0) book)) 0 ≡ not (eqb (ends_by book) 2)
+  pub rest_ends : eqb (length (drop (stop_from book 0) book)) 0 ≡ not (eqb (ends_by_lem book) 2)
   rest_ends = rest_at (records_stop book)
 
 -- the stated length, whatever follows

@@ -39,8 +39,8 @@ unfoldable pub stop_from : List ℕ → ℕ → ℕ
 stop_from book at = stop_in (length book - at) book at
 
 -- how the reading of a book ends: 1 at its end, 2 at a broken length
-abbrev pub ends_by : List ℕ → ℕ
-ends_by book = which_at book (stop_from book 0)
+abbrev pub ends_by_lem : List ℕ → ℕ
+ends_by_lem book = which_at book (stop_from book 0)
 
 abbrev pub joined : List (List ℕ) → List ℕ
 joined [] = []

@@ -40,7 +40,7 @@ use denote.Triple.Call.{calls_at}
 use denote.Triple.Clauses.{ensured, lasts}
 use denote.Triple.Table.{entered, cited}
 use Rattle.wire.specs.Book.{which_at, after_at}
-use Rattle.wire.specs.Cut.{records_of, stop_from, ends_by}
+use Rattle.wire.specs.Cut.{records_of, stop_from, ends_by_lem}
 use Rattle.reader.specs.declared.Reader.{Reader}
 use Rattle.reader.specs.declared.Answer.{Answer}
 use Rattle.book_cases.specs.declared.Counted.{Counted}
@@ -98,7 +98,7 @@ module _ {M : Type 1} {𝓤 : Ura M} (𝓛 : Logic 𝓤) (mem : Memory → SProp
   abbrev Post : Val → SProp 𝓤
   Post = (walk_of 𝓛 counts.ended stayed (counts.clauses 𝓛 mem run)).post (((κ, tt), (q, tt), tt, (s, tt), at), tt)
 
-  exits : (r : Counted) → (r.count ≡ length (records_of xs)) × (r.at ≡ stop_from xs 0) × (r.which ≡ ends_by xs) → Is CountedR r (counted_mach r ∷ []) → ent 𝓤 (⋆ 𝓛 (‵ (flft κ q) ∷ ‵ (Own κ s) ∷ [])) (Post (counted_mach r))
+  exits : (r : Counted) → (r.count ≡ length (records_of xs)) × (r.at ≡ stop_from xs 0) × (r.which ≡ ends_by_lem xs) → Is CountedR r (counted_mach r ∷ []) → ent 𝓤 (⋆ 𝓛 (‵ (flft κ q) ∷ ‵ (Own κ s) ∷ [])) (Post (counted_mach r))
   exits r e g =
       qed 𝓛 (‵ (flft κ q) ∷ ‵ (Own κ s) ∷ []) ∵
       suffices ! _ (ends_at 𝓛 counts.ended stayed (counts.clauses 𝓛 mem run) (((κ, tt), (q, tt), tt, (s, tt), at), tt) (counted_mach r) r (tt, tt) (tt, tt)) $

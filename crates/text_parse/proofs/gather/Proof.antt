@@ -9,12 +9,12 @@ use borrow.Author.Rules.{rules}
 use borrow.Author.Tests.{ne_eqb, eq-eqb}
 use Rattle.text_scan.proofs.ScanLaws.{part_is_rest}
 use Rattle.text_parse.specs.Entry.{next_cell, ended_by, gathered}
-use Rattle.text_parse.proofs.EntryLaws.{going_on, going_starts, going_on_lem, going_ends, going_last, going_short}
+use Rattle.text_parse.proofs.EntryLaws.{going_on_lem, going_starts, going_on_lem, going_ends, going_last, going_short}
 use Rattle.text_parse.proofs.gather.Statement.{statement}
 use Rattle.text_parse.proofs.gather.Tie as tie
 
 abbrev invariant-loop : tie.invariant-loop
-invariant-loop line start kind year sep values₀ at₀ k₀ values at k = (k ≤ 261) × (at < 18446744073709551616) × (gathered line start kind year sep ≡ going_on (261 - k) line at kind k year sep values)
+invariant-loop line start kind year sep values₀ at₀ k₀ values at k = (k ≤ 261) × (at < 18446744073709551616) × (gathered line start kind year sep ≡ going_on_lem (261 - k) line at kind k year sep values)
 
 abbrev decreases-loop : tie.decreases-loop
 decreases-loop line start kind year sep values₀ at₀ k₀ values at k = 261 - k
@@ -55,7 +55,7 @@ returns c =
     let fuel : 261 - l.k ≡ suc (261 - (l.k + 1)) = omega (arith, c.before.before.before.before.before.before.loop-test.true) in
     ◌∙◌ {b = ended_by f.answer (l.at + f.used) a.kind l.k l.values} c.ended.ensures
     (sym
-    (l.invariant.2 ∙ ap (λ (n : ℕ). going_on n a.line.now l.at a.kind l.k a.year a.sep l.values) fuel ∙
+    (l.invariant.2 ∙ ap (λ (n : ℕ). going_on_lem n a.line.now l.at a.kind l.k a.year a.sep l.values) fuel ∙
     going_ends a.line.now l.at a.kind l.k a.year a.sep l.values f (field c.before.before.before.before) (261 - (l.k + 1)) (ne_eqb f.answer 0 c.before.if1.true)))
 
 loop-again : tie.Need-loop-preserved invariant-loop decreases-loop
@@ -66,7 +66,7 @@ loop-again c =
     let fuel : 261 - l.k ≡ suc (261 - (l.k + 1)) = omega (arith, c.before.before.before.before.before.loop-test.true) in (
       search rules,
       omega (arith, going_short a.line.now l.at a.kind l.k a.year a.sep l.values f (field c.before.before.before), l.invariant.1),
-      l.invariant.2 ∙ ap (λ (n : ℕ). going_on n a.line.now l.at a.kind l.k a.year a.sep l.values) fuel ∙
+      l.invariant.2 ∙ ap (λ (n : ℕ). going_on_lem n a.line.now l.at a.kind l.k a.year a.sep l.values) fuel ∙
           going_on_lem a.line.now l.at a.kind l.k a.year a.sep l.values f (field c.before.before.before) (261 - (l.k + 1)) (eq-eqb f.answer 0 c.if1.false),
     )
 
@@ -84,7 +84,7 @@ returns-2 c =
     let fuel : 261 - l.k ≡ 0 = omega (arith, c.before.before.before.before.loop-test.false) in
     ◌∙◌ {b = ended_by f.answer (l.at + f.used) a.kind l.k l.values} c.ended2.ensures
     (sym
-    (l.invariant.2 ∙ ap (λ (n : ℕ). going_on n a.line.now l.at a.kind l.k a.year a.sep l.values) fuel ∙
+    (l.invariant.2 ∙ ap (λ (n : ℕ). going_on_lem n a.line.now l.at a.kind l.k a.year a.sep l.values) fuel ∙
     going_last a.line.now l.at a.kind l.k a.year a.sep l.values f (last-field c.before.before)))
 
 pub gather-spec : {M : Type 1} → statement M
