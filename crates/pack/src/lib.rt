@@ -1,5 +1,6 @@
 // An entry written as the bytes that its line stands for.
 #![tactic(auto)]
+
 ghost use Rattle.std.specs.Prelude.{◌≡◌, ◌≤◌, take, drop};
 ghost use Rattle.pen.specs.Pen.{spot, pushed_all};
 ghost use Rattle.pack.specs.Pack.{one_each, head_of, packed_of};

@@ -1,5 +1,6 @@
 // An entry written as a line of text, without its newline.
 #![tactic(auto)]
+
 ghost use Rattle.std.specs.Prelude.{◌≡◌};
 ghost use Rattle.pen.specs.Pen.{spot, pushed_all};
 ghost use Rattle.text_parse.specs.Entry.{word_text};

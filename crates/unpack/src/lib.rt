@@ -1,5 +1,6 @@
 // A record taken apart into the numbers of the line that stands for it.
 #![tactic(auto)]
+
 ghost use Rattle.std.specs.Prelude.{◌≡◌};
 ghost use Rattle.unpack.specs.Unpack.{kind_in, count_in, value_in, unpacked_of, bytes_entry, year_after};
 
