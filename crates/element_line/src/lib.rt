@@ -1,6 +1,7 @@
 // A line of the element sheet: code, name, outages, what the rate is per, the rate and the mean outage, each as an exact fraction and with six digits, parted
 // by tabs; and the heading over the lines.
 #![tactic(auto)]
+
 ghost use Rattle.std.specs.Prelude.{◌≡◌};
 ghost use Rattle.text.specs.Text.{text_of, pushed_all};
 ghost use Rattle.element_line.specs.Listing.{fraction_text, six_text, figure_text, per_text, line_text, line_of, heading_text};
