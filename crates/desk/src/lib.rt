@@ -1,6 +1,7 @@
 // The desk: a lent table of 32 slots, and the one entry for open, step and close. The rules stand in `desk_rules`; here a slot is taken out by value
 // and written back, and no function knows a rule but how many slots a desk has.
 #![tactic(auto)]
+
 ghost use Rattle.std.specs.Prelude.{◌≡◌, true, length, get_or, set};
 ghost use Rattle.desk_scan.specs.Inside.{roll_by, rolled};
 ghost use Rattle.desk_rules.specs.Rules.{look_at};

@@ -1,6 +1,7 @@
 // What a desk message does: from what was found of the desk, the ledger, the map and the message's bytes to a plan. All rules of the desk stand
 // here, on values; carrying a plan out is the desk's own part.
 #![tactic(auto)]
+
 ghost use Rattle.std.specs.Prelude.{◌≡◌, true, cond};
 ghost use Rattle.ledger.specs.Sound.{sound_ledger};
 ghost use Rattle.slot.specs.Sound.{slot_sound};
