@@ -1,5 +1,6 @@
 // The year report's text.
 #![tactic(auto)]
+
 ghost use Rattle.std.specs.Prelude.{◌≡◌};
 ghost use Rattle.text.specs.Text.{pushed_all};
 ghost use Rattle.report.specs.Report.{figure_text, level_word, set_word, line_text, head_text, lines_text, report_of};
