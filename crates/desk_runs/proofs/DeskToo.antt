@@ -193,7 +193,7 @@ cut_bytes (suc k) book b = go (whole_in_front book) (cut_bytes k (drop (le16 boo
   where
     go : (t : Bool) → All Bytes (cut_in k (drop (le16 book 0) book)) → All Bytes (cond t (take (le16 book 0) book ∷ cut_in k (drop (le16 book 0) book)) [])
     go true later = (all_take Byte (le16 book 0) book b, later)
-    go false later = tt
+    go false _ = tt
 
 pub records_bytes : (book : List ℕ) → Bytes book → All Bytes (records_of book)
 unfolding records_of

@@ -1,6 +1,6 @@
 -- 003, 10.5, told as messages: the bytes of each message, and the same end as that of the book. By computing. Assumes nothing.
 use mathlib.Core.Path.{◌≡◌, refl}
-use mathlib.Core.List.{[], ◌∷◌, map}
+use mathlib.Core.List.{[], ◌∷◌}
 use mathlib.Core.Bool.{true}
 use lib.ListN.{replicate}
 use Rattle.wire.specs.Book.{place_at}
