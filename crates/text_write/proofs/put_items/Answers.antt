@@ -23,7 +23,7 @@ pub loop-k-preserved : goal.loop-k-preserved
 loop-k-preserved c =
     let a = c.args in
     let l = c.loop-k in
-    let long : length a.entry.values ≡ 261 = c.well_formed.1.1.0.1.1.1.1.0.1.0.1 in (
+    let long : length a.entry.values ≡ 261 = search rules in (
       search rules,
       l.invariant.1 ∙ item_on _ _ _ _ a.entry.kind a.year l.k a.entry.count a.entry.values (omega (arith, c.if-entry-k.false)) (omega arith) c.item_of.ensures c.put_gap-gap.ensures c.put_item-to.ensures,
     )
@@ -35,4 +35,4 @@ pub returns : goal.returns
 returns c =
     let a = c.args in
     let l = c.loop-k in
-    sym (l.invariant.1 ∙ values_end (spot l.out l.to) a.entry.kind a.year l.k a.entry.count a.entry.values (let long : length a.entry.values ≡ 261 = omega (arith, c.well_formed.1.1.0.1.1.1.1.0.1.0.1) in omega arith))
+    sym (l.invariant.1 ∙ values_end (spot l.out l.to) a.entry.kind a.year l.k a.entry.count a.entry.values (let long : length a.entry.values ≡ 261 = search rules in omega arith))
