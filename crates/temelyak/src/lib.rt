@@ -1,5 +1,5 @@
-// The library for C (include/temelyak.h): a ledger is lent as words of 64 bits, and every call answers a number. Each exported function reads the ledger,
-// hands it to the call behind it, and writes it back where the answer is 0.
+// The calls of the library for C (include/temelyak.h), which the crate temelyak_c exports: a ledger is lent as words of 64 bits, and every call answers a
+// number. Each function reads the ledger, hands it to the call behind it, and writes it back where the answer is 0.
 ghost use Rattle.std.specs.Prelude.{◌≡◌};
 ghost use Rattle.temelyak.specs.Calls.{empty_answer, empty_words, take_answer, take_words, take_map, book_answer, book_words, book_map, book_out, serve_answer, serve_words, serve_map, serve_desk, index_answer, index_out, decimal_answer, decimal_out, built_of};
 ghost use Rattle.temelyak.specs.Inside.{handed_back};
@@ -12,8 +12,7 @@ use ledger::{Ledger, Taken};
 use slot::Slot;
 
 // Writes an empty ledger.
-#[unsafe(no_mangle)]
-pub extern "C" fn temelyak_empty(header: u64, ledger: &mut [u64]) -> u32
+pub fn temelyak_empty(header: u64, ledger: &mut [u64]) -> u32
     ensures { (result ≡ empty_answer header ledger.old) × (ledger.new ≡ empty_words header ledger.old) }
 {
     if ledger.len() != c_words::WORDS {
@@ -30,13 +29,7 @@ pub extern "C" fn temelyak_empty(header: u64, ledger: &mut [u64]) -> u32
 }
 
 // Takes one record of a book.
-#[unsafe(no_mangle)]
-pub extern "C" fn temelyak_take(
-    header: u64,
-    ledger: &mut [u64],
-    map: &mut [u8],
-    bytes: &[u8],
-) -> u32
+pub fn temelyak_take(header: u64, ledger: &mut [u64], map: &mut [u8], bytes: &[u8]) -> u32
     ensures { (result ≡ take_answer header ledger.old map.old bytes.now) × (ledger.new ≡ take_words header ledger.old map.old bytes.now) × (map.new ≡ take_map header ledger.old map.old bytes.now) }
 {
     let taken = c_words::lent_ledger(header, &ledger[..]).take(map, bytes);
@@ -44,8 +37,7 @@ pub extern "C" fn temelyak_take(
 }
 
 // Takes a whole book.
-#[unsafe(no_mangle)]
-pub extern "C" fn temelyak_take_book(
+pub fn temelyak_take_book(
     header: u64,
     ledger: &mut [u64],
     map: &mut [u8],
@@ -94,8 +86,7 @@ fn settle_served(header: u64, ledger: &mut [u64], served: Served) -> u32
 }
 
 // Serves one message at a desk.
-#[unsafe(no_mangle)]
-pub extern "C" fn temelyak_serve(
+pub fn temelyak_serve(
     header: u64,
     ledger: &mut [u64],
     map: &mut [u8],
@@ -110,8 +101,7 @@ pub extern "C" fn temelyak_serve(
 }
 
 // An index as an exact fraction.
-#[unsafe(no_mangle)]
-pub extern "C" fn temelyak_index(
+pub fn temelyak_index(
     header: u64,
     ledger: &[u64],
     index: u32,
@@ -138,8 +128,7 @@ pub extern "C" fn temelyak_index(
 }
 
 // An index with so many digits after the point.
-#[unsafe(no_mangle)]
-pub extern "C" fn temelyak_decimal(
+pub fn temelyak_decimal(
     header: u64,
     ledger: &[u64],
     index: u32,
@@ -168,8 +157,7 @@ pub extern "C" fn temelyak_decimal(
 }
 
 // What this library was built with: version, ledger words, slot bytes, map bytes and slots; 0 for any other.
-#[unsafe(no_mangle)]
-pub extern "C" fn temelyak_built(which: u32) -> u64
+pub fn temelyak_built(which: u32) -> u64
     ensures { result ≡ built_of which }
 {
     if which == 0 {
