@@ -1,5 +1,5 @@
--- A desk of another length is left as it is (`other_served`, `other_map`, `other_desk`); of one of 32 slots the plan is carried out, which comes to
--- what the message does (`plan_served`, `plan_map`, `plan_desk`). Assumes nothing.
+-- The plan is carried out, which comes to what the message does (`plan_served`, `plan_map`, `plan_desk`). That a desk of another length is left as it
+-- is the search finds, by the laws that the function names. Assumes nothing.
 use mathlib.Core.Path.{◌∙◌, ap}
 use lib.ListN.{set}
 use Rattle.used_numbers.specs.Marks.{marked_with}
