@@ -1,5 +1,6 @@
 // What one event adds by the annex's formulas: customers and half customer-minutes for each level, the short events, and the year's length.
 #![tactic(auto)]
+
 ghost use Rattle.std.specs.Prelude.{◌≡◌, ◌+◌, ◌*◌, ◌≤◌, max};
 ghost use Rattle.codes.specs.Ranges.{latest};
 ghost use Rattle.annex.specs.Figures.{nothing, larger_of, longer_of, with_step};

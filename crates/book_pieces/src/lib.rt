@@ -1,6 +1,7 @@
 // Taking a book in pieces as they arrive: the whole records of what has arrived are taken, and the bytes of a record that is not whole yet are kept at
 // the front of a lent buffer.
 #![tactic(auto)]
+
 ghost use Rattle.std.specs.Prelude.{◌≡◌};
 ghost use Rattle.book_pieces.specs.Feed.{begun_of, fed_of, map_fed, buffer_fed, finished_of};
 

@@ -439,8 +439,7 @@ fn read_opened(
 // Opens a text and reads it. A name that is no UTF-8 names no text.
 fn read_named(rt: &(impl Print + Files), err: &impl Print, name: &[u8], writing: bool) -> Outcome {
     if let Ok(path) = str::from_utf8(name) {
-        if let Ok(file) = File::open(rt, path) {
-            let mut file = file;
+        if let Ok(mut file) = File::open(rt, path) {
             return read_opened(rt, err, &mut file, name, writing);
         }
     }

@@ -1,5 +1,6 @@
 // What the codes of a call of the library for C name (include/temelyak.h), and what an index comes to as numbers for its output.
 #![tactic(auto)]
+
 ghost use Rattle.std.specs.Prelude.{◌≡◌, min, get_or};
 ghost use Rattle.index.specs.Index.{exactly};
 ghost use Rattle.decimal.specs.Decimal.{decimally};

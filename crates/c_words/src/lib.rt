@@ -1,6 +1,7 @@
 // A ledger lent by C as words of 64 bits under the header's word (include/temelyak.h): the ledger that the words hold, handed on to the call behind, and what
 // that call answers written back where the answer is 0.
 #![tactic(auto)]
+
 ghost use Rattle.std.specs.Prelude.{◌≡◌, ◌∷◌, [], ◌++◌, ◌+◌, ◌<◌, length, take, drop};
 ghost use Rattle.c_words.specs.Words.{words_first, ledger_words, words_fit, Fit, ledger_in, cells_of, cell_words, rows_of, cells_in, flag_of};
 ghost use Rattle.c_words.specs.Header.{headed, if_accepted};

@@ -1,5 +1,6 @@
 // Decimals of exact fractions, to nearest, a tie upward, by long division: no figure that a sound ledger holds is too large for it.
 #![tactic(auto)]
+
 ghost use Rattle.std.specs.Prelude.{◌≡◌, ◌+◌, ◌*◌, ◌<◌, ◌≤◌, ◌^◌};
 ghost use Rattle.decimal.specs.Decimal.{decimally, shown_numbers, split_at, Tenfold, Divided};
 

@@ -1,5 +1,5 @@
--- No second outcome meets what `serve` promises: answer, ledger, map and desk are decided. A function that is proved by a walk has its contract as
--- an assertion; `serve_says` says by computing that this assertion is the plain claim `Promise`, and the claim fixes the outcome.
+-- No second outcome meets what `serve` promises: answer, ledger, map and desk are decided. Its contract stands as an
+-- assertion; `serve_says` says by computing that this assertion is the plain claim `Promise`, and the claim fixes the outcome.
 -- Assumes nothing.
 use mathlib.Core.Path.{◌≡◌, refl}
 use seplogic.Ra.Ura.{Ura}

@@ -46,6 +46,7 @@ fn numbers_differ(table: [u16; 32]) -> bool
 }
 
 // The search: how many entries of a table it passes before the first that has the number; 32 where none has it.
+#[tactic(auto, using(base::proofs::PlaceLaws::found, base::proofs::PlaceLaws::passes_on, base::proofs::PlaceLaws::begins, base::proofs::PlaceLaws::ended))]
 fn place_in(table: [u16; 32], number: u16) -> usize
     ensures { result ≡ place number table }
 {

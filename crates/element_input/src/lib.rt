@@ -75,7 +75,7 @@ fn take_all<R: io::Read>(reader: &mut R, begun: Inflow, buffer: &mut [u8]) -> Tu
 }
 
 // What a reading came to, and whether it failed: a read that fails, more pieces than any file has, or an unsound table.
-#[derive(Drop)]
+#[derive(Clone, Copy)]
 pub struct Input {
     pub read: Reading,
     pub failed: bool,

@@ -136,8 +136,7 @@ fn take_opened(err: &impl Print, reader: &mut impl io::Read, name: &[u8], table:
 // A name that is no UTF-8 names no file.
 fn take_named(rt: &impl Files, err: &impl Print, name: &[u8], table: Table) -> Taken {
     if let Ok(path) = str::from_utf8(name) {
-        if let Ok(file) = File::open(rt, path) {
-            let mut file = file;
+        if let Ok(mut file) = File::open(rt, path) {
             return take_opened(err, &mut file, name, table);
         }
     }

@@ -1,5 +1,6 @@
 // The fields of a book's records, read off their bytes, and what 01 asks of a sheet's numbers and of a head's codes.
 #![tactic(auto)]
+
 ghost use Rattle.std.specs.Prelude.{◌≡◌, ◌+◌, ◌*◌, ◌≤◌, length};
 ghost use Rattle.fields.specs.Fields.{sheet_in, head_in, simple_in, step_at};
 ghost use Rattle.fields.specs.Tests.{in_range, head_listed};

@@ -1,5 +1,6 @@
 // SAIFI, SAIDI and CAIDI of a level or the network and a set of event types, as exact fractions in lowest terms and as decimals.
 #![tactic(auto)]
+
 ghost use Rattle.std.specs.Prelude.{◌≡◌, ◌≤◌, ◌<◌};
 ghost use Rattle.decimal.specs.Decimal.{decimally};
 ghost use Rattle.codes.specs.Codes.{levels};

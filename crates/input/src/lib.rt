@@ -77,7 +77,7 @@ fn take_all<R: io::Read>(reader: &mut R, map: &mut [u8], buffer: &mut [u8]) -> T
 }
 
 // What a reading came to, and whether it failed: a read that fails, or more pieces than any file has.
-#[derive(Drop)]
+#[derive(Clone, Copy)]
 pub struct Input {
     pub read: Read,
     pub failed: bool,

@@ -1,6 +1,7 @@
 // The ledger: the year sheet or none, the events and short events taken, and the cells by type and level. Every operation takes a ledger and
 // hands back the next one.
 #![tactic(auto)]
+
 ghost use Rattle.std.specs.Prelude.{◌≡◌, ◌&&◌, ◌≤◌, ◌*◌};
 ghost use Rattle.base.specs.Lists.{every};
 ghost use Rattle.annex.specs.Figure.{Off, Halves, most_of};

@@ -1,5 +1,6 @@
 // What 01 asks of an event's times and counts: its limits, each as one test.
 #![tactic(auto)]
+
 ghost use Rattle.std.specs.Prelude.{◌≡◌};
 ghost use Rattle.annex.specs.declared.Figures.{Figures};
 ghost use Rattle.limits.specs.Limits.{exceeding, above_level, exceeding_figures, figures_above, late_step, simple_late, none_then_some};

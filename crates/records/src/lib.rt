@@ -1,6 +1,7 @@
 // Records of a framed file taken one after the other, whatever takes them: what is counted, when a reading in pieces is over, and how the bytes of a record
 // that is not whole yet are kept at the front of a lent buffer.
 #![tactic(auto)]
+
 ghost use Rattle.std.specs.Prelude.{◌≡◌};
 ghost use Rattle.records.specs.Records.{one_if_refused};
 ghost use Rattle.records.specs.Pieces.{dead_rest, moved, end_answer, piece_answer};

@@ -5,7 +5,7 @@ use Rattle.wire.specs.Cut.{joined}
 use Rattle.records.specs.Pieces.{beginning, fed_all, Held}
 use Rattle.records.proofs.HeldLaws.{Holding}
 
--- the most bytes that a buffer has: those of `io::large_buffer`
+-- the most bytes that a buffer has: as many as the programs read into
 abbrev pub room : ℕ
 room = 65536
 

@@ -7,7 +7,7 @@ ghost use Rattle.refill.specs.Refill.{Refilled};
 use std::io::Read;
 
 // How many bytes of the buffer are filled; whether none came, as at the end of the input; whether that is because the read failed.
-#[derive(Drop)]
+#[derive(Clone, Copy)]
 pub struct Filled {
     pub count: usize,
     pub ended: bool,

@@ -1,5 +1,6 @@
 // The map of used event numbers: 8,192 lent bytes, of which number v is bit v mod 8 of byte v / 8.
 #![tactic(auto)]
+
 ghost use Rattle.std.specs.Prelude.{◌≡◌, ◌^◌, ◌<◌};
 ghost use Rattle.used_numbers.specs.Marks.{marked, marked_with};
 

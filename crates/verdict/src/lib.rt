@@ -1,5 +1,6 @@
 // What judging a record comes to: a verdict, of a refused record and of an accepted event.
 #![tactic(auto)]
+
 ghost use Rattle.std.specs.Prelude.{◌≡◌};
 ghost use Rattle.verdict.specs.Verdict.{refused_with, event_verdict};
 

@@ -1,10 +1,10 @@
 -- Invariant (`Going`): the run from the start is the run from here on; the ledger is sound, so the verdict on the record that stands next fits it.
 -- Assumes nothing.
 use borrow.Author.Rules.{rules}
-use Prim.Native.Nat.{ℕ, ◌+◌, ◌-◌, ◌≤◌}
+use Prim.Native.Nat.{ℕ, ◌+◌, ◌≤◌}
 use mathlib.Core.Path.{◌≡◌, sym, ap, ◌∙◌, subst⁻¹, subst₃}
 use mathlib.Core.List.{List}
-use lib.ListN.{set, length-map}
+use lib.ListN.{set}
 use native.Mathlib.Omega.{arith}
 use Rattle.wire.specs.Book.{part_of}
 use Rattle.record.specs.Verdict.{verdict_of}

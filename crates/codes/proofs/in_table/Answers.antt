@@ -1,5 +1,4 @@
 -- At each turn the code is listed just where it is listed in what is left of the table. Assumes nothing.
-use Prim.Native.Nat.{◌-◌}
 use mathlib.Core.Path.{◌∙◌, sym}
 use Rattle.base.proofs.ListLaws.{listed_here, listed_past, listed_none}
 use borrow.Author.Rules.{rules}

@@ -1,5 +1,4 @@
 -- At each turn the level is the one that is found in what is left of the table. Assumes nothing.
-use Prim.Native.Nat.{◌-◌}
 use mathlib.Core.Path.{◌∙◌, sym}
 use borrow.Author.Rules.{rules}
 use Rattle.codes.proofs.CodeLaws.{in_here, in_past, in_none}

@@ -1,6 +1,6 @@
 -- Each turn takes one digit more: the power, the digits and the rest stay a division of m by d with k digits.
 use borrow.Author.Rules.{rules}
-use Prim.Native.Nat.{◌-◌, ◌<◌, ◌≤◌}
+use Prim.Native.Nat.{◌<◌, ◌≤◌}
 use mathlib.Core.Path.{◌≡◌, refl}
 use native.Mathlib.Omega.{arith}
 use Rattle.decimal.proofs.DivisionLaws.{digit_more, six_digits_small}

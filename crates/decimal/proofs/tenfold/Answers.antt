@@ -1,6 +1,6 @@
 -- After k turns the digit and the sum split k times the rest by d; the sum stays below d, so ten times the rest has one digit.
 use borrow.Author.Rules.{rules}
-use Prim.Native.Nat.{ℕ, ◌+◌, ◌*◌, ◌-◌, ◌<◌}
+use Prim.Native.Nat.{ℕ, ◌+◌, ◌*◌, ◌<◌}
 use mathlib.Core.Path.{◌≡◌, ◌∙◌, ap}
 use native.Mathlib.Omega.{arith}
 use native.Mathlib.Nat.{lt_of_mul-lt-mul_right}
@@ -18,12 +18,12 @@ loop-k-preserved c =
     let turn : (l.k + 1) * a.rest ≡ l.k * a.rest + a.rest = one_more_time l.k a.rest in
     let carry : (l.digit + 1) * a.d ≡ l.digit * a.d + a.d = one_more_time l.digit a.d in
     elim c.if-d-rest.branch [
-      then-d-rest w ↦
-        let e : c.if-d-rest.digit * a.d ≡ l.digit * a.d + a.d = ap (λ (x : ℕ). x * a.d) w.digit-is ∙ carry in
-        (omega arith, omega arith, omega arith, omega arith)
-    | else-d-rest w ↦
-        let e : c.if-d-rest.digit * a.d ≡ l.digit * a.d = ap (λ (x : ℕ). x * a.d) w.digit-is in
-        (omega arith, omega arith, omega arith, omega arith)
+      | then-d-rest w ↦
+          let e : c.if-d-rest.digit * a.d ≡ l.digit * a.d + a.d = ap (λ (x : ℕ). x * a.d) w.digit-is ∙ carry in
+          (omega arith, omega arith, omega arith, omega arith)
+      | else-d-rest w ↦
+          let e : c.if-d-rest.digit * a.d ≡ l.digit * a.d = ap (λ (x : ℕ). x * a.d) w.digit-is in
+          (omega arith, omega arith, omega arith, omega arith)
     ]
 
 pub returns : goal.returns

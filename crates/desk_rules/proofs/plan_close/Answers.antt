@@ -2,8 +2,9 @@
 -- event, for which a sound ledger has room, and frees the slot. Assumes nothing.
 use Prim.Native.Nat.{ℕ, ◌<◌, ◌≤◌}
 use mathlib.Core.Path.{◌≡◌, refl, sym, ap, ◌∙◌, subst⁻¹}
-use mathlib.Core.Bool.{◌||◌, not, cond}
+use mathlib.Core.Bool.{Bool, ◌||◌, not, cond}
 use lib.Dec.{leb, eqb}
+use native.Mathlib.Omega.{arith}
 use borrow.Author.Tests.{eq-eqb, ne_eqb, eqb-false, le-leb, lt-leb}
 use Rattle.codes.specs.Ranges.{most_events}
 use Rattle.verdict.specs.declared.Verdict.{Verdict}
@@ -13,7 +14,6 @@ use Rattle.desk_rules.specs.Inside.{look_by, answer_at}
 use Rattle.desk_rules.specs.Plan.{refused_plan}
 use Rattle.desk_rules.proofs.PlanLaws.{refused_by, at_refused, at_accepted, close_answer, close_fits, event_answer}
 use Rattle.desk_rules.proofs.plan_close.Goals as goal
-use Rattle.desk_rules.proofs.plan_close.Goals.{then-ledger-ge-MOST_EVENTS, else-ledger-ge-MOST_EVENTS}
 
 -- the rest is 15 where the ledger is full, and else 0
 full : (events rest : ℕ) → most_events ≤ events → rest ≡ 15 → rest ≡ cond (leb most_events events) 15 0
@@ -21,6 +21,12 @@ full events rest l e = e ∙ ap (λ t. cond t 15 0) (sym (le-leb most_events eve
 
 spare : (events rest : ℕ) → events < most_events → rest ≡ 0 → rest ≡ cond (leb most_events events) 15 0
 spare events rest l e = e ∙ ap (λ t. cond t 15 0) (sym (lt-leb most_events events l))
+
+by_rest :
+    (c5 c7 c8 c9 : Bool) (events rest : ℕ) →
+    rest ≡ cond (leb most_events events) 15 0 →
+    cond c5 5 (cond c7 7 (cond c8 8 (cond c9 9 rest))) ≡ cond c5 5 (cond c7 7 (cond c8 8 (cond c9 9 (cond (leb most_events events) 15 0))))
+by_rest c5 c7 c8 c9 events rest e = ap (λ n. cond c5 5 (cond c7 7 (cond c8 8 (cond c9 9 n)))) e
 
 pub returns-then-bytes-ne7 : goal.returns-then-bytes-ne7
 returns-then-bytes-ne7 c =
@@ -31,16 +37,12 @@ returns-then-bytes-ne7 c =
 
 pub returns-then-answer-ne0 : goal.returns-then-answer-ne0
 returns-then-answer-ne0 c =
-    let rest_is : c.if-ledger-ge-MOST_EVENTS.rest ≡ cond (leb most_events c.args.ledger.events) 15 0 = elim c.if-ledger-ge-MOST_EVENTS.branch [
-      | then-ledger-ge-MOST_EVENTS w ↦ full c.args.ledger.events _ w.if-ledger-ge-MOST_EVENTS.true w.rest-is
-      | else-ledger-ge-MOST_EVENTS w ↦ spare c.args.ledger.events _ w.if-ledger-ge-MOST_EVENTS.false w.rest-is
-    ] in
     let answer_is : c.first_of_named-answer.result ≡ answer_at 18 (look_by c.args.slots c.args.roll c.args.slot c.args.bytes.now) c.args.ledger c.args.map.now c.args.bytes.now = let a = c.args in
     let s = a.bytes.now in
     let count = c.byte_at-count.ensures in
-    let rest = rest_is in
     c.first_of_named-answer.ensures ∙
-    (λ i. cond (not a.ledger.sheet.there) 5 (cond (eqb (c.u16_at-number.ensures i) 0) 7 (cond (leb 32 (c.named-at.ensures i)) 8 (cond (eqb (count i) 0 || not (eqb (count i) a.slot.steps)) 9 (rest i))))) ∙
+    by_rest _ _ _ _ a.ledger.events _ (grind (arith, full, spare)) ∙
+    (λ i. cond (not a.ledger.sheet.there) 5 (cond (eqb (c.u16_at-number.ensures i) 0) 7 (cond (leb 32 (c.named-at.ensures i)) 8 (cond (eqb (count i) 0 || not (eqb (count i) a.slot.steps)) 9 (cond (leb most_events a.ledger.events) 15 0))))) ∙
     sym (close_answer (look_by a.slots a.roll a.slot s) a.ledger a.map.now s (ap not (eq-eqb _ _ c.if-bytes-ne7.false))) in
     let a = c.args in
     let s = a.bytes.now in
@@ -51,16 +53,12 @@ returns-then-answer-ne0 c =
 
 pub add-taken-requires : goal.add-taken-requires
 add-taken-requires c =
-    let rest_is : c.if-ledger-ge-MOST_EVENTS.rest ≡ cond (leb most_events c.args.ledger.events) 15 0 = elim c.if-ledger-ge-MOST_EVENTS.branch [
-      | then-ledger-ge-MOST_EVENTS w ↦ full c.args.ledger.events _ w.if-ledger-ge-MOST_EVENTS.true w.rest-is
-      | else-ledger-ge-MOST_EVENTS w ↦ spare c.args.ledger.events _ w.if-ledger-ge-MOST_EVENTS.false w.rest-is
-    ] in
     let answer_is : c.first_of_named-answer.result ≡ answer_at 18 (look_by c.args.slots c.args.roll c.args.slot c.args.bytes.now) c.args.ledger c.args.map.now c.args.bytes.now = let a = c.args in
     let s = a.bytes.now in
     let count = c.byte_at-count.ensures in
-    let rest = rest_is in
     c.first_of_named-answer.ensures ∙
-    (λ i. cond (not a.ledger.sheet.there) 5 (cond (eqb (c.u16_at-number.ensures i) 0) 7 (cond (leb 32 (c.named-at.ensures i)) 8 (cond (eqb (count i) 0 || not (eqb (count i) a.slot.steps)) 9 (rest i))))) ∙
+    by_rest _ _ _ _ a.ledger.events _ (grind (arith, full, spare)) ∙
+    (λ i. cond (not a.ledger.sheet.there) 5 (cond (eqb (c.u16_at-number.ensures i) 0) 7 (cond (leb 32 (c.named-at.ensures i)) 8 (cond (eqb (count i) 0 || not (eqb (count i) a.slot.steps)) 9 (cond (leb most_events a.ledger.events) 15 0))))) ∙
     sym (close_answer (look_by a.slots a.roll a.slot s) a.ledger a.map.now s (ap not (eq-eqb _ _ c.if-bytes-ne7.false))) in
     let a = c.args in
     let s = a.bytes.now in
@@ -70,16 +68,12 @@ add-taken-requires c =
 
 pub returns : goal.returns
 returns c =
-    let rest_is : c.if-ledger-ge-MOST_EVENTS.rest ≡ cond (leb most_events c.args.ledger.events) 15 0 = elim c.if-ledger-ge-MOST_EVENTS.branch [
-      | then-ledger-ge-MOST_EVENTS w ↦ full c.args.ledger.events _ w.if-ledger-ge-MOST_EVENTS.true w.rest-is
-      | else-ledger-ge-MOST_EVENTS w ↦ spare c.args.ledger.events _ w.if-ledger-ge-MOST_EVENTS.false w.rest-is
-    ] in
     let answer_is : c.first_of_named-answer.result ≡ answer_at 18 (look_by c.args.slots c.args.roll c.args.slot c.args.bytes.now) c.args.ledger c.args.map.now c.args.bytes.now = let a = c.args in
     let s = a.bytes.now in
     let count = c.byte_at-count.ensures in
-    let rest = rest_is in
     c.first_of_named-answer.ensures ∙
-    (λ i. cond (not a.ledger.sheet.there) 5 (cond (eqb (c.u16_at-number.ensures i) 0) 7 (cond (leb 32 (c.named-at.ensures i)) 8 (cond (eqb (count i) 0 || not (eqb (count i) a.slot.steps)) 9 (rest i))))) ∙
+    by_rest _ _ _ _ a.ledger.events _ (grind (arith, full, spare)) ∙
+    (λ i. cond (not a.ledger.sheet.there) 5 (cond (eqb (c.u16_at-number.ensures i) 0) 7 (cond (leb 32 (c.named-at.ensures i)) 8 (cond (eqb (count i) 0 || not (eqb (count i) a.slot.steps)) 9 (cond (leb most_events a.ledger.events) 15 0))))) ∙
     sym (close_answer (look_by a.slots a.roll a.slot s) a.ledger a.map.now s (ap not (eq-eqb _ _ c.if-bytes-ne7.false))) in
     let a = c.args in
     let s = a.bytes.now in

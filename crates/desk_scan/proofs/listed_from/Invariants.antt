@@ -1,3 +1,4 @@
+-- At each turn the number is listed from the start on if it was hit so far or is listed in what is left to be counted. Assumes nothing.
 use Prim.Native.Nat.{◌≤◌, ◌-◌}
 use mathlib.Core.Path.{◌≡◌}
 use mathlib.Core.Bool.{◌||◌}

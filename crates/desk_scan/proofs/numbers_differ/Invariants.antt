@@ -1,3 +1,4 @@
+-- At each turn the entries seen differ from all that follow them, and what is left of the table differs by itself. Assumes nothing.
 use Prim.Native.Nat.{◌≤◌, ◌-◌}
 use mathlib.Core.Path.{◌≡◌}
 use mathlib.Core.Bool.{◌&&◌}

@@ -1,3 +1,4 @@
+-- The search has passed as many entries as its index says, none of which has the number. Assumes nothing.
 use Prim.Native.Nat.{◌-◌}
 use mathlib.Core.Path.{◌≡◌}
 use lib.ListN.{length}

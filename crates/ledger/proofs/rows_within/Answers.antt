@@ -1,11 +1,10 @@
 -- Invariant: the rows seen so far are as `ok` says, so that `ok` and the rest are the whole test. Assumes nothing.
 use mathlib.Core.Path.{sym, ◌∙◌}
-use Prim.Native.Nat.{◌+◌, ◌-◌}
+use Prim.Native.Nat.{◌+◌}
 use mathlib.Core.Bool.{◌&&◌}
 use lib.ListN.{drop}
 use Rattle.base.specs.Lists.{every}
 use Rattle.base.proofs.ListLaws.{every_more, every_ends}
-use Rattle.codes.specs.Codes as codes
 use Rattle.ledger.specs.Ledger.{no_row}
 use Rattle.ledger.specs.Sound.{row_within}
 use borrow.Author.Rules.{rules}

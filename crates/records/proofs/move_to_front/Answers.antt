@@ -1,6 +1,5 @@
 -- Invariant (`Moving`): the first bytes are those from start on, and the others are as lent. The place written is never past the place read, so both
 -- are in the buffer. Assumes nothing.
-use Prim.Native.Nat.{◌-◌}
 use native.Mathlib.Omega.{arith}
 use Rattle.records.proofs.MoveLaws.{moved_short, moving_begins, moving_on, moving_ends}
 use Rattle.records.proofs.move_to_front.Goals as goal

@@ -1,16 +1,12 @@
 -- `walk_of` meets its contract: what the whole walk comes to is at each turn what the walk so far comes to over the steps that are left.
 -- Assumes nothing.
-use borrow.Author.Rules.{rules, elem_fits_field}
-use Prim.Native.Nat.{ℕ, ◌+◌, ◌-◌, ◌<◌, ◌≤◌}
+use borrow.Author.Rules.{rules}
+use Prim.Native.Nat.{ℕ, ◌+◌, ◌-◌, ◌<◌}
 use mathlib.Core.Path.{◌≡◌, refl, ap, sym, ◌∙◌}
-use mathlib.Core.List.{List, map}
 use lib.ListN.{get_or}
 use native.Mathlib.Omega.{arith}
 use mir.Syntax.{w32}
 use mir.Val.{Fits}
-use denote.Array.{each}
-use denote.Plain.{UInt}
-use denote.Shadow.{shadow}
 use Rattle.annex.specs.Inside.{Few}
 use Rattle.annex.proofs.Bounds.{timely_begun}
 use Rattle.fields.specs.Fields.{step_at, steps_from}
