@@ -124,6 +124,9 @@ def comment(t, names):
 
 def main(argv):
     root = os.getcwd()
+    if os.path.exists(os.path.join(root, "docs", "PORT.md")) and "--list" not in argv:
+        print("respell: docs/PORT.md is there, so this tree is turned already: a second run would rename eight definitions once more")
+        return 1
     names = turned(root)
     back = collections.defaultdict(list)
     for old, new in names.items():

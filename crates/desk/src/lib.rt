@@ -56,6 +56,7 @@ fn planned(desk: &[Slot], ledger: Ledger, map: &[u8], bytes: &[u8]) -> Plan
 // One message: the answer number and the next ledger. An accepted open marks its number and takes the free slot of lowest index; an accepted step
 // changes the slot that holds its number; an accepted close adds its event to the ledger and frees its slot. A desk that is not 32 slots is refused
 // before a slot is looked at: what it is told to be may be more than there is.
+#[tactic(auto, using(desk_rules::proofs::ServeLaws::other_served, desk_rules::proofs::ServeLaws::other_map, desk_rules::proofs::ServeLaws::other_desk))]
 pub fn serve(ledger: Ledger, map: &mut [u8], desk: &mut [Slot], bytes: &[u8]) -> Served
     ensures { (result ≡ served_of ledger map.old desk.old bytes.now) × (map.new ≡ map_served ledger map.old desk.old bytes.now) × (desk.new ≡ desk_served ledger map.old desk.old bytes.now) }
 {

@@ -1,6 +1,6 @@
-use Rattle.std.proofs.Common.{◌≡◌, ℕ, List, length, ap, sym, ◌∙◌, subst, arith, ◌+◌, ◌<◌}
-use Rattle.wire.specs.Book.{which_at, record_at, after_at}
-use Rattle.wire.specs.Cut.{records_of, records_from, stop_from, ends_by}
+use Rattle.std.proofs.Common.{◌≡◌, ℕ, List, length, ap, sym, ◌∙◌, subst, arith, ◌<◌}
+use Rattle.wire.specs.Book.{which_at, after_at}
+use Rattle.wire.specs.Cut.{records_from}
 use Rattle.wire.proofs.CutLaws.{passed}
 use Rattle.book_cases.proofs.CountLaws.{Come, come_on, come_end}
 use Rattle.book_cases.proofs.count_records.Goals as goal

@@ -1,20 +1,11 @@
--- A desk of another length is left as it is (`other_served`, `other_map`, `other_desk`); of one of 32 slots the plan is carried out, which comes to
--- what the message does (`plan_served`, `plan_map`, `plan_desk`). Assumes nothing.
-use mathlib.Core.Path.{sym, ◌∙◌, ap}
+-- The plan is carried out, which comes to what the message does (`plan_served`, `plan_map`, `plan_desk`). That a desk of another length is left as it
+-- is the search finds, by the laws that the function names. Assumes nothing.
+use mathlib.Core.Path.{◌∙◌, ap}
 use lib.ListN.{set}
 use Rattle.used_numbers.specs.Marks.{marked_with}
 use Rattle.desk_rules.specs.declared.Plan.{Plan}
-use Rattle.desk_rules.proofs.ServeLaws.{plan_served, plan_map, plan_desk, other_served, other_map, other_desk}
+use Rattle.desk_rules.proofs.ServeLaws.{plan_served, plan_map, plan_desk}
 use Rattle.desk.proofs.serve.Goals as goal
-
-pub returns-then-desk-ne-SLOTS : goal.returns-then-desk-ne-SLOTS
-returns-then-desk-ne-SLOTS c =
-    let a = c.args in
-    let other = c.if-desk-ne-SLOTS.true in (
-      sym (other_served a.ledger a.map.now a.desk.now a.bytes.now other),
-      sym (other_map a.ledger a.map.now a.desk.now a.bytes.now other),
-      sym (other_desk a.ledger a.map.now a.desk.now a.bytes.now other),
-    )
 
 pub returns : goal.returns
 returns c =
