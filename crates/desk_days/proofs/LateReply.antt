@@ -196,7 +196,7 @@ refused_within : (most : ℕ) (st : State) (a : Arrival) → Within most (answer
 refused_within most st a w = record { not_accepted = w.0; at_most = w.1; unchanged = refused_after st a w.0 }
 
 module _ (v : ℕ) (st : State) (g : Gone v st) where
-  -- a step or close of v is answered by late_rules, an open or book event of its number by againRules: it is too late for v
+  -- a step or close of v is answered by late_rules, an open or book event of its number by again_rules: it is too late for v
   pub gone_reply : (a : Arrival) → Replies v a → answer_to st a ≡ first (late_rules (bytes_of a))
   gone_reply (message s) (inl k, n) = late_step_lem v st g s k n
   gone_reply (message s) (inr k, n) = late_close v st g s k n
