@@ -1,5 +1,5 @@
--- No second outcome meets what an exported function promises: the answer and all lent memory are decided. `temelyak_serve` is proved by a walk, so
--- its contract is an assertion: `serve_says` says by computing that this is the plain claim `Promise`. Assumes nothing.
+-- No second outcome meets what a call promises: the answer and all lent memory are decided. The contract of `temelyak_serve` stands as an assertion;
+-- `serve_says` says by computing that this assertion is the plain claim `Promise`. Assumes nothing.
 use mathlib.Core.Path.{◌≡◌, refl}
 use seplogic.Ra.Ura.{Ura}
 use base.Logic.{SProp}
