@@ -12,8 +12,7 @@ use Rattle.base.proofs.TestLaws.{Tested, holds, fails, test}
 use Rattle.wire.specs.Frame.{kind_of}
 use Rattle.used_numbers.specs.Marks.{marked_with}
 use Rattle.used_numbers.proofs.MarkLaws.{marked_with_zero, marked_with_size}
-use Rattle.verdict.specs.declared.Verdict.{Verdict}
-use Rattle.verdict.specs.Verdict.{refused_with}
+use Rattle.verdict.specs.Verdict.{Verdict, refused_with}
 use Rattle.record.specs.Rules.{rules}
 use Rattle.record.specs.Verdict.{record_answer, verdict_of, accepted_at}
 use Rattle.record.proofs.JudgeLaws.{verdict_refused, verdict_accepted}

@@ -7,7 +7,7 @@ use lib.Dec.{eqb}
 use borrow.Author.Tests.{eqb-false, not-false}
 use Rattle.base.proofs.TestLaws.{or_right}
 use Rattle.used_numbers.specs.Marks.{marked_with, map_size}
-use Rattle.verdict.specs.declared.Verdict.{Verdict}
+use Rattle.verdict.specs.Verdict.{Verdict}
 use Rattle.record.proofs.JudgeLaws.{verdict_answer}
 use Rattle.ledger.specs.Ledger.{added}
 use Rattle.ledger.specs.Inside.{Fits}
