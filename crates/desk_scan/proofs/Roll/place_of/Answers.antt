@@ -1,5 +1,5 @@
 -- The library's search is that of the definition. Assumes nothing.
-use mathlib.Core.Path.{◌≡◌, ◌∙◌, ap, sym}
+use mathlib.Core.Path.{◌≡◌, ◌∙◌, sym}
 use lib.Dec.{eqb}
 use borrow.Author.Tests.{tests}
 use Rattle.std.proofs.Common.{rules, cond, ltb, length, Some, None}
