@@ -4,7 +4,7 @@
 ghost use Rattle.std.specs.Prelude.{◌≡◌, ◌+◌, ◌*◌, ◌<◌, ◌≤◌, length};
 ghost use Rattle.wire.specs.Numbers.{byte_at, le16, le32, counts_at};
 ghost use Rattle.wire.specs.Frame.{framed, kind_of};
-ghost use Rattle.wire.specs.Book.{place_at, stand_of, part_of};
+ghost use Rattle.wire.specs.Book.{place_at, part_of};
 
 // What stands at an offset of a book: a record's place, the end, or a broken length.
 #[derive(Clone, Copy)]
@@ -12,14 +12,6 @@ pub enum Place {
     Record { start: usize, end: usize },
     End,
     Broken,
-}
-
-// The same in numbers: 0 a record, 1 the end, 2 broken, and the record's place. Where no record stands, both places are the offset.
-#[derive(Clone, Copy)]
-pub struct Stand {
-    pub which: u8,
-    pub start: usize,
-    pub end: usize,
 }
 
 fn join2(a: u8, b: u8) -> u16
@@ -129,29 +121,6 @@ pub fn place_at(book: &[u8], at: usize) -> Place
     Place::Record {
         start: at,
         end: at + size,
-    }
-}
-
-// The same, as a loop over a book's records asks it.
-pub fn stand_at(book: &[u8], at: usize) -> Stand
-    ensures { result ≡ stand_of (place_at book.now at) at }
-{
-    match place_at(book, at) {
-        Place::Record { start, end } => Stand {
-            which: 0,
-            start,
-            end,
-        },
-        Place::End => Stand {
-            which: 1,
-            start: at,
-            end: at,
-        },
-        Place::Broken => Stand {
-            which: 2,
-            start: at,
-            end: at,
-        },
     }
 }
 
