@@ -2,7 +2,7 @@
 #![tactic(auto)]
 
 ghost use Rattle.std.specs.Prelude.{◌≡◌};
-ghost use Rattle.calendar.specs.Calendar.{days_in, date_of, minute_of};
+ghost use Rattle.calendar.specs.Calendar.{days_in, date_of, minute_of, minute_in};
 
 // A day of a year by its month and its number in it, both from 1, and a time of that day.
 #[derive(Clone, Copy)]
@@ -11,13 +11,6 @@ pub struct Date {
     pub day: u32,
     pub hour: u32,
     pub minute: u32,
-}
-
-// Whether a year has a date, and its minute; 0 where it has not.
-#[derive(Clone, Copy)]
-pub struct Minute {
-    pub there: bool,
-    pub value: u32,
 }
 
 // The days of a month of a year from 2000 to 2099, from 1 for January; past December none.
@@ -90,37 +83,22 @@ fn days_before(year: u16, month: u32) -> u32
 }
 
 // The minute of a date, where the year has that date.
-pub fn minute_of(year: u16, date: Date) -> Minute
-    ensures { result ≡ minute_of year date }
+pub fn minute_of(year: u16, date: Date) -> Option<u32>
+    ensures { minute_in result ≡ minute_of year date }
 {
     let days = days_in(year, date.month);
     if date.day == 0 {
-        return Minute {
-            there: false,
-            value: 0,
-        };
+        return None;
     }
     if days < date.day {
-        return Minute {
-            there: false,
-            value: 0,
-        };
+        return None;
     }
     if 23 < date.hour {
-        return Minute {
-            there: false,
-            value: 0,
-        };
+        return None;
     }
     if 59 < date.minute {
-        return Minute {
-            there: false,
-            value: 0,
-        };
+        return None;
     }
     let day = days_before(year, date.month) + (date.day - 1);
-    Minute {
-        there: true,
-        value: day * 1440 + date.hour * 60 + date.minute,
-    }
+    Some(day * 1440 + date.hour * 60 + date.minute)
 }
