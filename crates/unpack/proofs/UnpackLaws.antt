@@ -13,7 +13,7 @@ use Rattle.wire.specs.Numbers.{byte_at, le16, le32}
 use Rattle.wire.specs.Frame.{framed, kind_of}
 use Rattle.fields.specs.Fields.{sheet_in, step_count}
 use Rattle.fields.specs.Tests.{in_range}
-use Rattle.text_items.specs.declared.Entry.{Entry}
+use Rattle.text_items.specs.Entry.{Entry}
 use Rattle.text_items.specs.Shape.{most_of, entry_of}
 use Rattle.text_items.proofs.ShapeLaws.{most_small}
 use Rattle.unpack.specs.Unpack.{kind_in, stepped_in, count_in, value_in, values_run, unpacked_of, year_after}
