@@ -3,13 +3,15 @@
 
 ghost use Rattle.std.specs.Prelude.{◌≡◌, ◌≤◌};
 ghost use Rattle.base.specs.Lists.{every};
+ghost use Rattle.refusals.specs.Refusals.{answer_in};
 ghost use Rattle.wire.specs.Frame.{kind_of};
 ghost use Rattle.element_row.specs.Row.{row_within};
-ghost use Rattle.element_table.specs.Table.{row_or, begin_of, file_begun, sound_table};
+ghost use Rattle.element_table.specs.Table.{filed_in, row_or, begun, begin_of, file_begun, sound_table};
 ghost use Rattle.element_table.specs.Rules.{answer_of};
 ghost use Rattle.element_table.specs.Take.{with_row, accepted_at, taken_of};
 
 use element_row::Row;
+use refusals::Refusal;
 
 // The observation period in years, whether the file's year sheet was seen, and a row for each element in the order of 9.8.
 #[derive(Clone, Copy)]
@@ -17,13 +19,6 @@ pub struct Table {
     pub period: u32,
     pub seen: bool,
     pub rows: [Row; 62],
-}
-
-// An answer number, and the next table.
-#[derive(Clone, Copy)]
-pub struct Filed {
-    pub answer: u8,
-    pub table: Table,
 }
 
 // Whether every row is.
@@ -50,75 +45,54 @@ fn row_at(rows: [Row; 62], at: usize) -> Row
 }
 
 impl Table {
-    // A table for an observation period: 24 for one that is not 1 to 50 years.
-    pub fn begin(period: u32) -> Filed
-        ensures { result ≡ begin_of period }
+    // A table for an observation period, which is 1 to 50 years.
+    pub fn begin(period: u32) -> Result<Table, Refusal>
+        ensures { filed_in (begun 0) result ≡ begin_of period }
     {
-        let rows = [Row {
-            outages: 0,
-            minutes: 0,
-            stock: 0,
-            amount: 0,
-        }; 62];
         if (period < 1) | (50 < period) {
-            return Filed {
-                answer: 24,
-                table: Table {
-                    period: 0,
-                    seen: false,
-                    rows,
-                },
-            };
+            return Err(Refusal::Period);
         }
-        Filed {
-            answer: 0,
-            table: Table {
-                period,
-                seen: false,
-                rows,
-            },
-        }
+        Ok(Table {
+            period,
+            seen: false,
+            rows: [Row::none(); 62],
+        })
     }
 
     // Whether the table is sound.
     pub fn sound(self) -> bool
         ensures { result ≡ sound_table self }
     {
-        let rows = self.rows;
-        (1 <= self.period) & (self.period <= 50) & rows_within(rows)
+        (1 <= self.period) & (self.period <= 50) & rows_within(self.rows)
     }
 
-    // Begins a file: its year sheet is yet to be seen. 1 for an unsound table.
+    // Begins a file: its year sheet is yet to be seen. A table that is not sound begins none.
     #[tactic(auto, unfolding(crate::specs::Table::file_begun))]
-    pub fn begin_file(mut self) -> Filed
-        ensures { result ≡ file_begun self }
+    pub fn begin_file(self) -> Result<Table, Refusal>
+        ensures { filed_in self result ≡ file_begun self }
     {
-        if !self.sound() {
-            return Filed {
-                answer: 1,
-                table: self,
-            };
-        }
-        self.seen = false;
-        Filed {
-            answer: 0,
-            table: self,
+        if self.sound() {
+            Ok(Table {
+                seen: false,
+                ..self
+            })
+        } else {
+            Err(Refusal::Unsound)
         }
     }
 
-    // The smallest number that applies to a record, 0 where none does.
+    // The first refusal that applies to a record.
     #[tactic(auto, unfolding(crate::specs::Rules::answer_of))]
-    fn answer_to(self, bytes: &[u8]) -> u8
-        ensures { result ≡ answer_of self bytes.now }
+    fn answer_to(self, bytes: &[u8]) -> Result<(), Refusal>
+        ensures { answer_in result ≡ answer_of self bytes.now }
     {
         if !self.sound() {
-            return 1;
+            return Err(Refusal::Unsound);
         }
         if !wire::is_framed(bytes) {
-            return 2;
+            return Err(Refusal::Frame);
         }
-        let rows = self.rows;
-        let row = row_at(rows, element_codes::row_of(wire::u16_at(bytes, 4)));
+        let row = row_at(self.rows, element_codes::row_of(wire::u16_at(bytes, 4)));
         let kind = wire::kind_of(bytes);
         if kind == 1 {
             return element_rules::sheet_answer(self.seen, bytes);
@@ -129,7 +103,7 @@ impl Table {
         if kind == 5 {
             return element_rules::stock_answer(self.seen, row, bytes);
         }
-        3
+        Err(Refusal::Kind)
     }
 
     // The table with another row for an element.
@@ -143,7 +117,7 @@ impl Table {
         self
     }
 
-    // The table with a record to which no number applies.
+    // The table with a record that is not refused.
     fn with_record(mut self, bytes: &[u8]) -> Table
         requires { answer_of self bytes.now ≡ 0 }
         ensures { result ≡ accepted_at (kind_of bytes.now) self bytes.now }
@@ -154,8 +128,7 @@ impl Table {
             return self;
         }
         let at = element_codes::row_of(wire::u16_at(bytes, 4));
-        let rows = self.rows;
-        let row = row_at(rows, at);
+        let row = row_at(self.rows, at);
         if kind == 4 {
             let minutes = wire::u32_at(bytes, 10) - wire::u32_at(bytes, 6);
             return self.with_row(at, row.with_outage(minutes));
@@ -166,20 +139,11 @@ impl Table {
         )
     }
 
-    // One record of a yearly file: the answer number and the next table.
-    pub fn take(self, bytes: &[u8]) -> Filed
-        ensures { result ≡ taken_of self bytes.now }
+    // One record of a yearly file: the next table. A refused record leaves the table as it was.
+    pub fn take(self, bytes: &[u8]) -> Result<Table, Refusal>
+        ensures { filed_in self result ≡ taken_of self bytes.now }
     {
-        let answer = self.answer_to(bytes);
-        if answer != 0 {
-            return Filed {
-                answer,
-                table: self,
-            };
-        }
-        Filed {
-            answer: 0,
-            table: self.with_record(bytes),
-        }
+        self.answer_to(bytes)?;
+        Ok(self.with_record(bytes))
     }
 }
