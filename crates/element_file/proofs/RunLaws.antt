@@ -17,7 +17,7 @@ use Rattle.records.proofs.TakeLaws as all
 use Rattle.records.proofs.TakeLaws.{one_at_most}
 use Rattle.records.proofs.RunLaws as run
 use Rattle.element_table.specs.declared.Table.{Table}
-use Rattle.element_table.specs.declared.Filed.{Filed}
+use Rattle.element_table.specs.Table.{Filed}
 use Rattle.element_table.specs.Table.{sound_table, seen_as, file_begun}
 use Rattle.element_table.specs.Rules.{answer_of}
 use Rattle.element_table.specs.Take.{taken_of}
