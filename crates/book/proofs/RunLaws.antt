@@ -17,7 +17,7 @@ use Rattle.records.proofs.RunLaws as run
 use Rattle.codes.specs.Codes.{rows}
 use Rattle.used_numbers.specs.Marks.{marked_with, map_size}
 use Rattle.used_numbers.proofs.MarkLaws.{marked_with_size}
-use Rattle.verdict.specs.declared.Verdict.{Verdict}
+use Rattle.verdict.specs.Verdict.{Verdict}
 use Rattle.record.specs.Verdict.{verdict_of}
 use Rattle.record.proofs.JudgeLaws.{verdict_answer}
 use Rattle.ledger.specs.declared.Ledger.{Ledger}

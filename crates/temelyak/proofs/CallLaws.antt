@@ -16,9 +16,8 @@ use Rattle.decimal.specs.declared.Shown.TheVariants as shown
 use Rattle.decimal.specs.Decimal.{decimal_of, shown_of, decimally}
 use Rattle.codes.specs.declared.Set.{Set}
 use Rattle.ledger.specs.declared.Ledger.{Ledger}
-use Rattle.ledger.specs.declared.Taken.{Taken}
 use Rattle.ledger.specs.Ledger.{empty_ledger}
-use Rattle.ledger.specs.Take.{answer_of, map_after, taken_of}
+use Rattle.ledger.specs.Take.{Taken, answer_of, map_after, taken_of}
 use Rattle.book.specs.declared.Read.{Read}
 use Rattle.book.specs.Book.{read_of, map_read}
 use Rattle.index.specs.declared.Answer.{Answer}

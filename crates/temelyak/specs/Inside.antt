@@ -1,5 +1,5 @@
 -- Inner vocabulary: what the desk answers, as `c_words::settle` takes it.
-use Rattle.ledger.specs.declared.Taken.{Taken}
+use Rattle.ledger.specs.Take.{Taken}
 use Rattle.desk_rules.specs.declared.Served.{Served}
 
 abbrev pub handed_back : Served → Taken

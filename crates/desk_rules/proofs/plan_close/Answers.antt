@@ -7,7 +7,7 @@ use lib.Dec.{leb, eqb}
 use native.Mathlib.Omega.{arith}
 use borrow.Author.Tests.{eq-eqb, ne_eqb, eqb-false, le-leb, lt-leb}
 use Rattle.codes.specs.Ranges.{most_events}
-use Rattle.verdict.specs.declared.Verdict.{Verdict}
+use Rattle.verdict.specs.Verdict.{Verdict}
 use Rattle.ledger.specs.Ledger.{added}
 use Rattle.ledger.specs.Inside.{Fits}
 use Rattle.desk_rules.specs.Inside.{look_by, answer_at}
