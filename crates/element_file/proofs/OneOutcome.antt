@@ -22,7 +22,7 @@ same_pass x y e =
     λ i. record { table = (e i).table; refused = (e i).refused; stop = (e i).stop; broken = b i }
 
 -- and no two outcomes to the same reading
-same_reading : (left : Table) (x y : Result Read Refusal) → reading_in left x ≡ reading_in left y → x ≡ y
+pub same_reading : (left : Table) (x y : Result Read Refusal) → reading_in left x ≡ reading_in left y → x ≡ y
 same_reading left (Ok r) (Ok s) e = λ i. Ok (record { table = (e i).table; refused = (e i).refused; broken = (e i).broken })
 same_reading left (Ok r) (Err s) e = absurd (no_refusal_0 s (sym (ap (λ (o : Reading). o.answer) e)))
 same_reading left (Err r) (Ok s) e = absurd (no_refusal_0 r (ap (λ (o : Reading). o.answer) e))
