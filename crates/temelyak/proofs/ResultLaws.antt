@@ -7,9 +7,11 @@ use Rattle.refusals.specs.Refusals.{number_of, answer_in}
 use Rattle.refusals.proofs.NumberLaws.{number_above_0}
 use Rattle.ledger.specs.declared.Ledger.{Ledger}
 use Rattle.ledger.specs.Take.{taken_in}
+use Rattle.desk_rules.specs.Serve.{served_in}
 use Rattle.c_words.specs.Header.{header_word, headed, if_accepted}
 use Rattle.c_words.specs.Inside.{no_ledger, written, settled, handed}
 use Rattle.c_words.proofs.LentLaws.{refused_is}
+use Rattle.temelyak.specs.Inside.{handed_back}
 
 -- a refusal is answered with a number above 0, under any header
 pub headed_above_0 : (header : ℕ) (r : Refusal) → headed header (number_of r) ≡ 0 → ⊥
@@ -23,10 +25,21 @@ pub same_answer : (l : Ledger) (x : Result Ledger Refusal) → answer_in x ≡ (
 same_answer l (Ok next) = refl
 same_answer l (Err r) = refl
 
+-- a refusal leaves what was lent, whatever would be written
+pub refused_same : (header : ℕ) (ws : List ℕ) (r : Refusal) (next : List ℕ) → if_accepted (headed header (number_of r)) next ws ≡ ws
+refused_same header ws r next = refused_is (headed header (number_of r)) next ws (headed_above_0 header r)
+
 pub same_words : (header : ℕ) (ws : List ℕ) (l : Ledger) (x : Result Ledger Refusal) → settled header ws (handed x) ≡ settled header ws (taken_in l x)
 unfolding settled
 same_words header ws l (Ok next) = refl
-same_words header ws l (Err r) = kept (written ws no_ledger) ∙ sym (kept (written ws l))
-  where
-    kept : (next : List ℕ) → if_accepted (headed header (number_of r)) next ws ≡ ws
-    kept next = refused_is (headed header (number_of r)) next ws (headed_above_0 header r)
+same_words header ws l (Err r) = refused_same header ws r (written ws no_ledger) ∙ sym (refused_same header ws r (written ws l))
+
+-- the same of the desk's answer
+pub same_served : (l : Ledger) (x : Result Ledger Refusal) → answer_in x ≡ (served_in l x).answer
+same_served l (Ok next) = refl
+same_served l (Err r) = refl
+
+pub same_served_words : (header : ℕ) (ws : List ℕ) (l : Ledger) (x : Result Ledger Refusal) → settled header ws (handed x) ≡ settled header ws (handed_back (served_in l x))
+unfolding settled
+same_served_words header ws l (Ok next) = refl
+same_served_words header ws l (Err r) = refused_same header ws r (written ws no_ledger) ∙ sym (refused_same header ws r (written ws l))

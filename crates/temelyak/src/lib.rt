@@ -123,20 +123,12 @@ pub fn temelyak_decimal(
 pub fn temelyak_built(which: u32) -> u64
     ensures { result ≡ built_of which }
 {
-    if which == 0 {
-        return c_words::VERSION;
+    match which {
+        0 => c_words::VERSION,
+        1 => c_words::WORDS as u64,
+        2 => 72,
+        3 => 8192,
+        4 => 32,
+        _ => 0,
     }
-    if which == 1 {
-        return c_words::WORDS as u64;
-    }
-    if which == 2 {
-        return 72;
-    }
-    if which == 3 {
-        return 8192;
-    }
-    if which == 4 {
-        return 32;
-    }
-    0
 }

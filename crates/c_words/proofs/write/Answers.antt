@@ -1,19 +1,14 @@
 -- Seven stores, then the cells; where there are not as many words nothing is done. Assumes nothing.
-use mathlib.Core.Path.{◌≡◌, refl, sym, ap, ◌∙◌}
+use mathlib.Core.Path.{sym, ap, ◌∙◌}
 use mathlib.Core.List.{[], ◌∷◌, ◌++◌}
-use mathlib.Core.Bool.{Bool, true, false, cond}
-use mir.Val.{bool_byte}
+use mathlib.Core.Bool.{cond}
 use lib.ListN.{length, length-set}
 use native.Mathlib.Omega.{arith}
 use borrow.Author.Tests.{eq-eqb, ne_eqb}
-use Rattle.c_words.specs.Words.{ledger_words, words_of, words_before, flag_of, cell_words, cells_in}
+use Rattle.c_words.specs.Words.{ledger_words, words_of, words_before, cell_words, cells_in}
 use Rattle.c_words.specs.Inside.{written}
-use Rattle.c_words.proofs.WordLaws.{seven_set}
+use Rattle.c_words.proofs.WordLaws.{seven_set, flag_byte}
 use Rattle.c_words.proofs.write.Goals as goal
-
-flag_byte : (t : Bool) → bool_byte t ≡ flag_of t
-flag_byte true = refl
-flag_byte false = refl
 
 pub returns-then-words-ne-WORDS : goal.returns-then-words-ne-WORDS
 unfolding written
