@@ -48,6 +48,8 @@ long_month year (suc (suc (suc (suc (suc (suc (suc (suc (suc (suc (suc zero)))))
 long_month year (suc (suc (suc (suc (suc (suc (suc (suc (suc (suc (suc (suc zero)))))))))))) n0 h n2 n4 n6 n9 n11 = refl
 long_month year (suc (suc (suc (suc (suc (suc (suc (suc (suc (suc (suc (suc (suc m))))))))))))) n0 h n2 n4 n6 n9 n11 = absurd (omega arith)
 
+pub ruleset days_known = (february_leap, february, past_december, long_month)
+
 -- the days of a month stand in the year's list, at the month's number less 1
 pub days_listed : (year month : ℕ) → 1 ≤ month → days_in year month ≡ get_or (months year) (month - 1) 0
 unfolding days_in
@@ -160,6 +162,8 @@ module _ (year d₀ month d : ℕ) (h : Dated year d₀ month d) where
 
   pub day_passed : 12 < month → d + 1 ≡ day_in (months year) d₀
   day_passed k = sym (h.day_left ∙ day_none (months year) (month - 1) d (omega arith))
+
+pub ruleset months_searched = (dated_begins, dated_on, month_found, day_found, month_passed, day_passed)
 
 -- a date by its month and day
 pub date_is :

@@ -14,7 +14,7 @@ pub struct Date {
 }
 
 // The days of a month of a year from 2000 to 2099, from 1 for January; past December none.
-#[tactic(auto, using(crate::proofs::MonthLaws::february_leap, crate::proofs::MonthLaws::february, crate::proofs::MonthLaws::past_december, crate::proofs::MonthLaws::long_month), unfolding(crate::specs::Calendar::days_in))]
+#[tactic(auto, using(crate::proofs::MonthLaws::days_known), unfolding(crate::specs::Calendar::days_in))]
 fn days_in(year: u16, month: u32) -> u32
     ensures { result ≡ days_in year month }
 {
@@ -28,7 +28,7 @@ fn days_in(year: u16, month: u32) -> u32
 }
 
 // The month that a day of a year falls in, the day counted from 0, and its number there, from 1. Past the year's end the month is 13, and the days go on.
-#[tactic(auto, using(crate::proofs::MonthLaws::dated_begins, crate::proofs::MonthLaws::dated_on, crate::proofs::MonthLaws::month_found, crate::proofs::MonthLaws::day_found, crate::proofs::MonthLaws::month_passed, crate::proofs::MonthLaws::day_passed))]
+#[tactic(auto, using(crate::proofs::MonthLaws::months_searched))]
 fn day_of(year: u16, day: u32) -> (u32, u32)
     requires { day < 4294967295 }
     ensures month { result.0 ≡ month_in (months year) day }

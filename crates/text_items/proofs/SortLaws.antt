@@ -1,7 +1,9 @@
--- A sort of line or of item is told by its number. Assumes nothing.
+-- A sort of line or of item is told by its number, and an entry by what it says in numbers. Assumes nothing.
 use Rattle.std.specs.Prelude.{ℕ, ◌≡◌, cond, eqb}
 use mathlib.Core.Path.{refl, ap, sym, ◌∙◌}
-use Rattle.text_items.specs.Sorts.{sort_number, item_number}
+use Rattle.text_items.specs.Entry.{Entry}
+use Rattle.text_items.specs.Sorts.{sort_number, item_number, entry_in}
+use Rattle.text_items.specs.declared.Entry.{Entry as CodeEntry}
 use Rattle.text_items.specs.declared.Sort.{Sort}
 use Rattle.text_items.specs.declared.Sort.TheVariants.{Blank, Sheet, Simple, Stepped, Hex}
 use Rattle.text_items.specs.declared.Item.{Item}
@@ -34,3 +36,8 @@ item_back Digits = refl
 
 pub same_item : (i j : Item) → item_number i ≡ item_number j → i ≡ j
 same_item i j same = sym (item_back i) ∙ ap item_with same ∙ item_back j
+
+pub same_entry : (e f : CodeEntry) → entry_in e ≡ entry_in f → e ≡ f
+same_entry e f same =
+    let kind : e.kind ≡ f.kind = same_sort e.kind f.kind (ap (λ (t : Entry). t.kind) same) in
+    λ i. record { kind = kind i; count = (same i).count; values = (same i).values }
