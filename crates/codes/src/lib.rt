@@ -10,7 +10,8 @@ pub const ROWS: usize = 7;
 
 pub const LEVELS: usize = 3;
 
-// The row of a type, and the level of a voltage, that is not listed: the one past the last.
+// The row of a type, and the level of a voltage, that is not listed: the one past the last. It is no None: `event_verdict` has it as a verdict's row, and
+// `above_level` and `head_listed` compare it as a number.
 pub const NO_ROW: u8 = ROWS as u8;
 
 pub const NO_LEVEL: u8 = LEVELS as u8;

@@ -8,7 +8,7 @@ ghost use Rattle.fields.specs.Tests.{in_range, head_listed};
 use annex::{Simple, Step};
 use codes::LEVELS;
 
-// The year sheet, or none: then all is zero. This is no Option: a sheet that C callers lend may have numbers without being there, and is answered 1.
+// The year sheet, or none: then all is zero. It is no Option, since a sheet that C callers lend may have numbers and not be there, which is answered 1.
 #[derive(Clone, Copy)]
 pub struct Sheet {
     pub there: bool,
