@@ -23,7 +23,7 @@ pub const MOST_CUSTOMERS: u32 = 10000000;
 
 pub const MOST_EVENTS: u16 = 65535;
 
-// The levels, lowest first.
+// The levels, lowest first: numbers, as the table `voltages` and the row's place of a level have them.
 const NN: u8 = 0;
 
 const VN: u8 = 1;

@@ -21,6 +21,7 @@ pub struct Sheet {
 #[derive(Clone, Copy)]
 pub struct Head {
     pub number: u16,
+    // Type, voltage and cause as a record has them, listed or not.
     pub typ: u8,
     pub voltage: u8,
     pub cause: u8,
@@ -79,7 +80,7 @@ pub fn step_at(s: &[u8], at: usize) -> Step
 }
 
 impl Sheet {
-    // No sheet.
+    // No sheet, which `Sheet::default()` would not say.
     pub fn none() -> Sheet
         ensures { result ≡ no_sheet }
     {

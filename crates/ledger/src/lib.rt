@@ -75,7 +75,7 @@ fn levels_within(levels: [Cell; LEVELS], events: u16) -> bool
 }
 
 impl TypeRow {
-    // Nothing on any level.
+    // Nothing on any level. Named as `Ledger::empty` and `Figures::none` are.
     pub fn none() -> TypeRow
         ensures { result ≡ empty_row }
     {
