@@ -1,5 +1,4 @@
 -- The table begins the file, and nothing is held yet. Assumes nothing.
-use mathlib.Core.Path.{sym}
 use Rattle.std.proofs.lemmas.Result.{err_from_is_err_and}
 use Rattle.element_pieces.specs.Inflow.{fresh}
 use Rattle.element_pieces.proofs.begin.Goals as goal
