@@ -1,20 +1,22 @@
 -- How a loop over the records of some bytes goes, over any state and any step: what has been taken so far and what is still to come are together the whole
 -- run. Assumes nothing.
 use Prim.Native.Nat.{ℕ, ◌+◌, ◌-◌, ◌<◌, ◌≤◌}
-use mathlib.Core.Path.{◌≡◌, sym, ap, ◌∙◌}
-use mathlib.Core.Bool.{not, not-not}
+use mathlib.Core.Path.{◌≡◌, refl, sym, ap, ◌∙◌}
+use mathlib.Core.Bool.{Bool, true, false, not, not-not, cond}
+use mathlib.Core.Logic.{inl, inr}
 use mathlib.Core.List.{List}
 use lib.Dec.{eqb, ltb}
+use mir.Val.{bool_byte}
 use lib.ListN.{length, drop, length-drop}
 use native.Mathlib.Omega.{arith}
-use borrow.Author.Tests.{ltb-true, ltb-false, eq-eqb, ne_eqb}
+use borrow.Author.Tests.{ltb-true, ltb-false, eq-eqb, ne_eqb, eqb-false}
 use Rattle.base.proofs.TestLaws.{Tested, holds, fails, test}
 use Rattle.wire.specs.declared.Place.{Place}
-use Rattle.wire.specs.declared.Place.TheVariants.{Record}
+use Rattle.wire.specs.declared.Place.TheVariants.{Record, End, Broken}
 use Rattle.wire.specs.Book.{place_at, which_of, start_of, end_of, which_at, record_at, after_at, part_of}
 use Rattle.wire.specs.Cut.{records_of, records_from, stop_from, ends_by}
-use Rattle.wire.proofs.CutLaws.{records_is, passed, halted, starts_there}
-use Rattle.wire.proofs.AppendLaws.{rest_ends, stop_within}
+use Rattle.wire.proofs.CutLaws.{Stopped, records_is, records_stop, passed, halted}
+use Rattle.wire.proofs.AppendLaws.{rest_ends}
 use Rattle.records.specs.Records.{take_all, is_broken}
 
 module _ {S : Type 0} (step : S → List ℕ → S) (refused : S → ℕ) (st₀ : S) (bytes : List ℕ) where
@@ -78,3 +80,34 @@ module _ (bytes : List ℕ) where
 
   pub stops_short : ltb (stop_from bytes 0) (length bytes) ≡ is_broken bytes
   stops_short = left_either (test (ltb (stop_from bytes 0) (length bytes))) ∙ ap not (rest_ends bytes) ∙ not-not (is_broken bytes)
+
+  ends_either : Stopped bytes (stop_from bytes 0) → cond (is_broken bytes) 2 1 ≡ ends_by bytes
+  ends_either (inl e) = ap (λ (p : Place). cond (eqb (which_of p) 2) 2 1) e ∙ sym (ap which_of e)
+  ends_either (inr e) = ap (λ (p : Place). cond (eqb (which_of p) 2) 2 1) e ∙ sym (ap which_of e)
+
+  -- how it ends, as a number
+  pub ends_told : cond (ltb (stop_from bytes 0) (length bytes)) 2 1 ≡ ends_by bytes
+  ends_told = ap (λ (b : Bool). cond b 2 1) stops_short ∙ ends_either (records_stop bytes)
+
+-- which tells a broken length from the end
+pub which_tells : (b : Bool) → eqb (cond b 2 1) 2 ≡ b
+which_tells true = refl
+which_tells false = refl
+
+-- and what a broken length counts
+pub broken_counts : (b : Bool) → bool_byte b ≡ cond b 1 0
+broken_counts true = refl
+broken_counts false = refl
+
+pub one_at_most_broken : (b : Bool) → bool_byte b ≤ 1
+one_at_most_broken true = omega arith
+one_at_most_broken false = omega arith
+
+not_0 : (p : Place) → ((start end : ℕ) → p ≡ Record start end → ⊥) → which_of p ≡ 0 → ⊥
+not_0 (Record start end) over z = over start end refl
+not_0 End over z = eqb-false 1 0 refl z
+not_0 Broken over z = eqb-false 2 0 refl z
+
+-- no record stands where a loop over records ends
+pub none_stands : (bytes : List ℕ) (at : ℕ) (p : Place) → p ≡ place_at bytes at → ((start end : ℕ) → p ≡ Record start end → ⊥) → which_at bytes at ≡ 0 → ⊥
+none_stands bytes at p is over z = not_0 p over (ap which_of is ∙ z)
