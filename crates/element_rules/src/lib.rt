@@ -18,8 +18,7 @@ pub fn sheet_answer(seen: bool, bytes: &[u8]) -> Result<(), Refusal>
     if seen {
         return Err(Refusal::Sheet);
     }
-    let sheet = fields::sheet_of(bytes);
-    if !sheet.in_range() {
+    if !fields::sheet_of(bytes).in_range() {
         return Err(Refusal::Range);
     }
     Ok(())
@@ -40,7 +39,7 @@ pub fn outage_answer(seen: bool, row: Row, bytes: &[u8]) -> Result<(), Refusal>
     }
     let start = wire::u32_at(bytes, 6);
     let end = wire::u32_at(bytes, 10);
-    if (end < start) | (codes::LATEST < start) | (codes::LATEST < end) {
+    if end < start || codes::LATEST < start || codes::LATEST < end {
         return Err(Refusal::Time);
     }
     if element_row::MOST_OUTAGES <= row.outages {
@@ -56,13 +55,10 @@ pub fn stock_answer(seen: bool, row: Row, bytes: &[u8]) -> Result<(), Refusal>
     if bytes.len() != 11 {
         return Err(Refusal::Length);
     }
-    if !seen {
+    if !seen || 0 < row.stock {
         return Err(Refusal::Sheet);
     }
-    if 0 < row.stock {
-        return Err(Refusal::Sheet);
-    }
-    if !element_codes::is_element(wire::u16_at(bytes, 4)) | (1 < wire::byte_at(bytes, 6)) {
+    if !element_codes::is_element(wire::u16_at(bytes, 4)) || 1 < wire::byte_at(bytes, 6) {
         return Err(Refusal::Code);
     }
     Ok(())

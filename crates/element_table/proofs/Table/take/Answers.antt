@@ -17,13 +17,13 @@ use Rattle.element_table.proofs.Table.take.Goals as goal
 refused : (t : Table) (s : List ℕ) (r : Refusal) → number_of r ≡ answer_of t s → filed_in t (Err r) ≡ taken_of t s
 refused t s r e = λ i. record { answer = e i; table = sym (refused_hands_back t s (λ z. no_refusal_0 r (e ∙ z))) i }
 
-pub returns-in_err-answer_to : goal.returns-in_err-answer_to
-returns-in_err-answer_to c =
+pub returns-in_err-kind : goal.returns-in_err-kind
+returns-in_err-kind c =
     let p = err_from_is_err_and c.from_residual.result c.from_residual.ensures.1 in
-    rw (p.1, p.2) (refused c.args.self c.args.bytes.now _ c.in_err-answer_to.ensures)
+    rw (p.1, p.2) (refused c.args.self c.args.bytes.now _ c.in_err-kind.ensures.answer)
 
 pub returns : goal.returns
 returns c =
     let a = c.args in
-    let e = sym c.in_ok-answer_to.ensures in
+    let e = sym c.in_ok-kind.ensures.answer in
     λ i. record { answer = sym e i; table = (c.with_record.ensures ∙ sym (accepted_after a.self a.bytes.now e)) i }
