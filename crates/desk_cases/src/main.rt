@@ -235,16 +235,18 @@ impl Bench {
         }
     }
 
-    // One message to the desk that the first of the slots make.
+    // One message to the desk that the first of the slots make. They are copied out and back, as one call is not lent two fields behind a reference.
     fn serve(&mut self, message: &[u8]) {
         let size = (self.bytes as usize).min(self.map.len());
         let desk = at_most_held(self.desk as usize);
+        let mut slots = self.slots;
         let served = desk::serve(
             self.ledger,
             &mut self.map[..size],
-            &mut self.slots[..desk],
+            &mut slots[..desk],
             message,
         );
+        self.slots = slots;
         self.ledger = served.ledger;
         self.answer = served.answer;
     }
