@@ -1,23 +1,30 @@
 -- How the loop over a book's records goes: the run of records' laws, with a ledger that stays sound and a map that keeps its size. Assumes nothing.
 use Prim.Native.Nat.{ℕ, ◌+◌, ◌≤◌}
-use mathlib.Core.Path.{◌≡◌, refl, sym, ap, ◌∙◌, subst}
+use mathlib.Core.Path.{◌≡◌, refl, sym, ap, ◌∙◌, subst, subst⁻¹, subst₃}
 use mathlib.Core.List.{List}
-use mathlib.Core.Bool.{true, false, cond, not}
+use mathlib.Core.Bool.{Bool, true, false, cond, not}
 use lib.ListN.{length}
-use lib.Dec.{eqb}
+use lib.Dec.{ltb, eqb}
 use native.Mathlib.Omega.{arith}
+use native.Mathlib.Nat.{add-zero}
 use borrow.Author.Tests.{eq-eqb}
+use Rattle.std.specs.Prelude.{Ok, Err}
 use Rattle.base.proofs.TestLaws.{or_both}
-use Rattle.wire.specs.declared.Stand.{Stand}
-use Rattle.wire.specs.Book.{place_at, stand_of, part_of}
+use Rattle.wire.specs.declared.Place.TheVariants.{Record}
+use Rattle.wire.specs.Book.{place_at, which_at, part_of}
+use Rattle.wire.specs.Cut.{stop_from}
 use Rattle.records.specs.Records.{one_if_refused, is_broken}
 use Rattle.records.proofs.TakeLaws as all
-use Rattle.records.proofs.TakeLaws.{one_at_most}
+use Rattle.records.proofs.TakeLaws.{one_at_most, refusal_counts}
 use Rattle.records.proofs.RunLaws as run
 use Rattle.codes.specs.Codes.{rows}
 use Rattle.used_numbers.specs.Marks.{marked_with, map_size}
-use Rattle.used_numbers.proofs.MarkLaws.{marked_with_size}
-use Rattle.verdict.specs.declared.Verdict.{Verdict}
+use Rattle.used_numbers.proofs.MarkLaws.{marked_with_zero, marked_with_size}
+use Rattle.refusals.specs.declared.Refusal.{Refusal}
+use Rattle.refusals.specs.Refusals.{number_of}
+use Rattle.verdict.specs.declared.Accepted.{Accepted}
+use Rattle.verdict.specs.Verdict.{Verdict, refused_with}
+use Rattle.verdict.specs.Judged.{accepted_verdict, judged}
 use Rattle.record.specs.Verdict.{verdict_of}
 use Rattle.record.proofs.JudgeLaws.{verdict_answer}
 use Rattle.ledger.specs.declared.Ledger.{Ledger}
@@ -25,11 +32,11 @@ use Rattle.ledger.specs.Ledger.{added}
 use Rattle.ledger.specs.Sound.{sound_ledger}
 use Rattle.ledger.specs.Inside.{Fits}
 use Rattle.ledger.specs.Take.{unsound, answer_of}
-use Rattle.ledger.proofs.CellLaws.{added_rows}
+use Rattle.ledger.proofs.CellLaws.{added_rows, added_refused}
 use Rattle.ledger.proofs.LedgerLaws.{sound_kept}
 use Rattle.ledger.proofs.TakeLaws.{take_judged, answer_judged}
 use Rattle.ledger.proofs.SoundLaws.{verdict_fits}
-use Rattle.book.specs.Book.{BookState, starting, take_record, after_book, pass_of, read_of, map_read}
+use Rattle.book.specs.Book.{Pass, BookState, starting, take_record, after_book, pass_of, read_of, map_read}
 
 -- a sound ledger with a map of the right size is not refused 1
 pub sound_taken : (l : Ledger) (m : List ℕ) → sound_ledger l ≡ true → length m ≡ map_size → unsound l m ≡ false
@@ -67,54 +74,71 @@ refused_counted st s = refl
 pub refused_below : (l : Ledger) (m book : List ℕ) → (after_book l m book).refused ≤ length book
 refused_below l m book = omega (arith, all.refused_below take_record refused_in answer_in refused_counted (starting l m) book)
 
--- at a turn of the loop over the records of a book, begun from ledger l₀ and map m₀: ledger l, map m, r refused records so far, and what stands next
-pub record Going (l₀ : Ledger) (m₀ book : List ℕ) (l : Ledger) (m : List ℕ) (r : ℕ) (stand : Stand) : Type 0 where
-  pub on : run.Going take_record refused_in (starting l₀ m₀) book (record { ledger = l; map = m; refused = r }) stand
+-- at a turn of the loop over the records of a book, begun from ledger l₀ and map m₀: ledger l, map m, r refused records so far, and the offset of what
+-- stands next
+pub record Going (l₀ : Ledger) (m₀ book : List ℕ) (l : Ledger) (m : List ℕ) (r at : ℕ) : Type 0 where
+  pub on : run.Going take_record refused_in (starting l₀ m₀) book (record { ledger = l; map = m; refused = r }) at
   pub sound : sound_ledger l ≡ true
   pub size : length m ≡ map_size
   pub rows_there : length l.rows ≡ rows
 
 module _ (l₀ : Ledger) (m₀ book : List ℕ) where
   -- the loop begins at offset 0 with a sound ledger of all rows and a map of 8,192 bytes
-  pub going_begins :
-      (stand : Stand) →
-      stand ≡ stand_of (place_at book 0) 0 →
-      sound_ledger l₀ ≡ true →
-      length m₀ ≡ map_size →
-      length l₀.rows ≡ rows →
-      Going l₀ m₀ book l₀ m₀ 0 stand
-  going_begins stand e s z n =
-      record { on = run.going_begins take_record refused_in (starting l₀ m₀) book stand e; sound = s; size = z; rows_there = n }
+  pub going_begins : sound_ledger l₀ ≡ true → length m₀ ≡ map_size → length l₀.rows ≡ rows → Going l₀ m₀ book l₀ m₀ 0 0
+  going_begins s z n = record { on = run.going_begins take_record refused_in (starting l₀ m₀) book; sound = s; size = z; rows_there = n }
 
-  module _ (l : Ledger) (m : List ℕ) (r : ℕ) (stand : Stand) (g : Going l₀ m₀ book l m r stand) where
+  module _ (l : Ledger) (m : List ℕ) (r at : ℕ) (g : Going l₀ m₀ book l m r at) where
     -- the verdict on the record that stands next is added, and its number marked
-    pub going_on_lem :
-        (v : Verdict) →
-        v ≡ verdict_of (part_of book stand.start stand.end) l.sheet m l.events →
-        (next : Stand) →
-        next ≡ stand_of (place_at book stand.end) stand.end →
-        stand.which ≡ 0 →
-        Going l₀ m₀ book (added l v) (marked_with m v.number) (r + one_if_refused v.answer) next
-    going_on_lem v judged next there one =
-        let s = part_of book stand.start stand.end in
-        let step = record_judged l m r s (sound_taken l m g.sound g.size) in
-        record {
-          on =
-              run.going_on_lem take_record refused_in (starting l₀ m₀) book _ stand g.on next there one _
-              ((λ i. record { ledger = added l (judged i); map = marked_with m (judged i).number; refused = r + one_if_refused (judged i).answer }) ∙ sym step)
-              (omega (arith, one_at_most v.answer));
-          sound = sound_kept l v (subst (Fits l) (sym judged) (verdict_fits l m s g.sound));
-          size = marked_with_size m v.number ∙ g.size;
-          rows_there = added_rows l v ∙ g.rows_there;
-        }
+    module _ {start end : ℕ} (is : place_at book at ≡ Record start end) where
+      going_on_lem :
+          (v : Verdict) →
+          v ≡ verdict_of (part_of book start end) l.sheet m l.events →
+          Going l₀ m₀ book (added l v) (marked_with m v.number) (r + one_if_refused v.answer) end
+      going_on_lem v judged-here =
+          let s = part_of book start end in
+          let step = record_judged l m r s (sound_taken l m g.sound g.size) in
+          record {
+            on =
+                run.going_on_lem take_record refused_in (starting l₀ m₀) book _ at g.on is _
+                ((λ i. record { ledger = added l (judged-here i); map = marked_with m (judged-here i).number; refused = r + one_if_refused (judged-here i).answer }) ∙ sym step)
+                (omega (arith, one_at_most v.answer));
+            sound = sound_kept l v (subst (Fits l) (sym judged-here) (verdict_fits l m s g.sound));
+            size = marked_with_size m v.number ∙ g.size;
+            rows_there = added_rows l v ∙ g.rows_there;
+          }
+
+      -- what an accepted record adds fits the ledger
+      pub accepted_fits : (a : Accepted) → judged l.sheet (Ok a) ≡ verdict_of (part_of book start end) l.sheet m l.events → Fits l (accepted_verdict a)
+      accepted_fits a here = subst (Fits l) (sym here) (verdict_fits l m (part_of book start end) g.sound)
+
+      pub going_accepted :
+          (a : Accepted) →
+          judged l.sheet (Ok a) ≡ verdict_of (part_of book start end) l.sheet m l.events →
+          Going l₀ m₀ book (added l (accepted_verdict a)) (marked_with m a.number) r end
+      going_accepted a here =
+          subst (λ (n : ℕ). Going l₀ m₀ book (added l (accepted_verdict a)) (marked_with m a.number) n end) (add-zero r)
+          (going_on_lem (accepted_verdict a) here)
+
+      -- a refused one marks and adds nothing, and is counted
+      pub going_refused :
+          (refusal : Refusal) →
+          judged l.sheet (Err refusal) ≡ verdict_of (part_of book start end) l.sheet m l.events →
+          Going l₀ m₀ book l m (r + 1) end
+      going_refused refusal here =
+          subst₃ (λ l₁ m₁ n. Going l₀ m₀ book l₁ m₁ n end)
+          (added_refused l (number_of refusal))
+          (marked_with_zero m)
+          (ap (λ (n : ℕ). r + n) (refusal_counts refusal))
+          (going_on_lem (refused_with l.sheet (number_of refusal)) here)
 
     -- where no record stands the run is over
     pub going_ends :
-        (stand.which ≡ 0 → ⊥) →
-        (record { ledger = l; refused = r; stop = stand.start; which = stand.which } ≡ pass_of l₀ m₀ book) × (m ≡ (after_book l₀ m₀ book).map)
+        (which_at book at ≡ 0 → ⊥) →
+        (record { ledger = l; refused = r; stop = at; which = cond (ltb at (length book)) 2 1 } ≡ pass_of l₀ m₀ book) × (m ≡ (after_book l₀ m₀ book).map)
     going_ends over =
-        let e = run.going_ends take_record refused_in (starting l₀ m₀) book _ stand g.on over in (
-          (λ i. record { ledger = (e.0 i).ledger; refused = (e.0 i).refused; stop = e.1 i; which = e.2 i }),
+        let e = run.going_ends take_record refused_in (starting l₀ m₀) book _ at g.on over in (
+          (λ i. record { ledger = (e.0 i).ledger; refused = (e.0 i).refused; stop = e.1 i; which = cond (ltb (e.1 i) (length book)) 2 1 }) ∙
+              (λ i. record { ledger = (after_book l₀ m₀ book).ledger; refused = (after_book l₀ m₀ book).refused; stop = stop_from book 0; which = run.ends_told book i }),
           ap (λ (st : BookState). st.map) e.0,
         )
 
@@ -140,3 +164,16 @@ module _ (l : Ledger) (m book : List ℕ) where
       (map_read l m book ≡ (after_book l m book).map)
   unfolding read_of map_read
   read_through u = (rw u, rw u)
+
+  -- what is told of the book after its run
+  module _ (pass : Pass) (ran : pass ≡ pass_of l m book) where
+    pub few_refused : pass.refused ≤ length book
+    few_refused = subst⁻¹ (λ (r : Pass). r.refused ≤ length book) ran (refused_below l m book)
+
+    pub read_told :
+        unsound l m ≡ false →
+        (b : Bool) → pass.which ≡ cond b 2 1 →
+        record { answer = 0; ledger = pass.ledger; refused = pass.refused + cond b 1 0; broken = b } ≡ read_of l m book
+    read_told u b e =
+        let same : b ≡ is_broken book = sym (run.which_tells b) ∙ ap (λ (n : ℕ). eqb n 2) (sym e) ∙ ap (λ (r : Pass). eqb r.which 2) ran in
+        (λ i. record { answer = 0; ledger = (ran i).ledger; refused = (ran i).refused + cond (same i) 1 0; broken = same i }) ∙ sym (read_through u).0

@@ -1,6 +1,13 @@
 -- No second outcome meets what a public function of this crate promises. Assumes nothing.
-use mathlib.Core.Path.{refl}
+use Prim.Native.Nat.{ℕ}
+use Rattle.std.specs.Prelude.{Result, Ok, Err}
+use mathlib.Core.Path.{◌≡◌, refl, sym, ap}
+use mathlib.Core.List.{List}
+use lib.ListN.{get_or, drop}
 use Rattle.base.proofs.OneOutcome.{OneOutcome, alike}
+use Rattle.refusals.specs.declared.Refusal.{Refusal}
+use Rattle.refusals.proofs.NumberLaws.{same_refusal, no_refusal_0}
+use Rattle.c_codes.specs.Named.{numbers_in}
 use Rattle.c_codes.proofs.index_named.Kinds as index-named-kinds
 use Rattle.c_codes.proofs.index_named.Reads as index_named_lem
 use Rattle.c_codes.proofs.level_named.Kinds as level-named-kinds
@@ -28,12 +35,18 @@ set_named_one κs a x y v w p q = (alike p q, refl)
 pub all_named_one : OneOutcome all-named-kinds.ps all-named-kinds.r all_named.Post
 all_named_one κs a x y v w p q = (alike p q, refl)
 
--- all three numbers are decided
+-- two answers of the same numbers are the same
+numbers_decide : (a b : Result (List ℕ) Refusal) → numbers_in a ≡ numbers_in b → a ≡ b
+numbers_decide (Ok m) (Ok n) p = ap Ok (ap (drop 1) p)
+numbers_decide (Ok m) (Err r) p = absurd (no_refusal_0 r (sym (ap (λ (ns : List ℕ). get_or ns 0 0) p)))
+numbers_decide (Err r) (Ok n) p = absurd (no_refusal_0 r (ap (λ (ns : List ℕ). get_or ns 0 0) p))
+numbers_decide (Err r) (Err s) p = ap Err (same_refusal r s (ap (λ (ns : List ℕ). get_or ns 0 0) p))
+
 pub fraction_pair_one : OneOutcome fraction-pair-kinds.ps fraction-pair-kinds.r fraction-pair.Post
-fraction_pair_one κs a x y v w p q = ((λ i. record { answer = alike p.0 q.0 i; first = alike p.1 q.1 i; second = alike p.2 q.2 i }), refl)
+fraction_pair_one κs a x y v w p q = (numbers_decide x y (alike p q), refl)
 
 pub decimal_pair_one : OneOutcome decimal-pair-kinds.ps decimal-pair-kinds.r decimal_pair.Post
-decimal_pair_one κs a x y v w p q = ((λ i. record { answer = alike p.0 q.0 i; first = alike p.1 q.1 i; second = alike p.2 q.2 i }), refl)
+decimal_pair_one κs a x y v w p q = (numbers_decide x y (alike p q), refl)
 
 pub digits_or_7_one : OneOutcome digits-or-7-kinds.ps digits-or-7-kinds.r digits-or-7.Post
 digits_or_7_one κs a x y v w p q = (alike p q, refl)

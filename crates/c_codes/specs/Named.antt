@@ -1,5 +1,7 @@
--- The codes of an index, a level and a set in include/temelyak.h.
-use Rattle.std.specs.Prelude.{ℕ, Bool, ◌&&◌, cond, leb, eqb}
+-- The codes of an index, a level and a set in include/temelyak.h, and the numbers that a call answers.
+use Rattle.std.specs.Prelude.{ℕ, List, [], ◌∷◌, Bool, ◌&&◌, cond, leb, eqb, Result, Ok, Err}
+use Rattle.refusals.specs.declared.Refusal.{Refusal}
+use Rattle.refusals.specs.Refusals.{number_of}
 use Rattle.codes.specs.declared.Set.{Set}
 use Rattle.codes.specs.declared.Set.TheVariants.{All, Std, Unnamed}
 use Rattle.index.specs.declared.Level.{Level}
@@ -22,3 +24,8 @@ set_named code = cond (eqb code 0) Unnamed (cond (eqb code 1) All Std)
 -- each code names one of these; any other code names none
 abbrev pub all_named : ℕ → ℕ → ℕ → Bool
 all_named index level set = leb 1 index && leb index 3 && (leb 1 level && leb level 4) && leb set 2
+
+-- 0 and the numbers for an output, or the number of a refusal alone
+abbrev pub numbers_in : Result (List ℕ) Refusal → List ℕ
+numbers_in (Ok ns) = 0 ∷ ns
+numbers_in (Err r) = number_of r ∷ []

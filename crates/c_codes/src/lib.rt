@@ -1,15 +1,16 @@
 // What the codes of a call of the library for C name (include/temelyak.h), and what an index comes to as numbers for its output.
 #![tactic(auto)]
 
-ghost use Rattle.std.specs.Prelude.{◌≡◌, min, get_or};
+ghost use Rattle.std.specs.Prelude.{◌≡◌, min};
 ghost use Rattle.index.specs.Index.{exactly};
 ghost use Rattle.decimal.specs.Decimal.{decimally};
-ghost use Rattle.c_codes.specs.Named.{index_named, level_named, set_named, all_named};
+ghost use Rattle.c_codes.specs.Named.{index_named, level_named, set_named, all_named, numbers_in};
 
-use c_words::Pair;
 use codes::Set;
-use decimal::Shown;
-use index::{Answer, Index, Level};
+use decimal::Decimal;
+use index::{Index, Level};
+use ratio::Fraction;
+use refusals::Refusal;
 
 // The index that a code names.
 pub fn index_named(code: u32) -> Index
@@ -60,47 +61,24 @@ pub fn all_named(index: u32, level: u32, set: u32) -> bool
     (1 <= index) & (index <= 3) & ((1 <= level) & (level <= 4)) & (set <= 2)
 }
 
-// An answer as numbers: top and bottom, or the whole part and the digits.
-pub fn fraction_pair(answer: Answer) -> Pair
-    ensures { (result.answer ≡ get_or (exactly answer) 0 0) × (result.first ≡ get_or (exactly answer) 1 0) × (result.second ≡ get_or (exactly answer) 2 0) }
+// An index's answer as two numbers: top and bottom, or the whole part and the digits.
+pub fn fraction_pair(answer: Result<Fraction, Refusal>) -> Result<[u64; 2], Refusal>
+    ensures { numbers_in result ≡ exactly answer }
 {
-    match answer {
-        Answer::Is(f) => Pair {
-            answer: 0,
-            first: f.top,
-            second: f.bottom,
-        },
-        Answer::Refused(n) => Pair {
-            answer: n,
-            first: 0,
-            second: 0,
-        },
-    }
+    let f = answer?;
+    Ok([f.top, f.bottom])
 }
 
-pub fn decimal_pair(shown: Shown) -> Pair
-    ensures { (result.answer ≡ get_or (decimally shown) 0 0) × (result.first ≡ get_or (decimally shown) 1 0) × (result.second ≡ get_or (decimally shown) 2 0) }
+pub fn decimal_pair(shown: Result<Decimal, Refusal>) -> Result<[u64; 2], Refusal>
+    ensures { numbers_in result ≡ decimally shown }
 {
-    match shown {
-        Shown::Is(d) => Pair {
-            answer: 0,
-            first: d.whole,
-            second: d.digits,
-        },
-        Shown::Refused(n) => Pair {
-            answer: n,
-            first: 0,
-            second: 0,
-        },
-    }
+    let d = shown?;
+    Ok([d.whole, d.digits])
 }
 
 // The number of digits, or 7 where there are more: no more are taken.
 pub fn digits_or_7(digits: u32) -> u8
     ensures { result ≡ min digits 7 }
 {
-    if 6 < digits {
-        return 7;
-    }
-    digits as u8
+    digits.min(7) as u8
 }

@@ -10,9 +10,8 @@ use native.Mathlib.Omega.{arith}
 use borrow.Author.Tests.{eq-eqb, ne_eqb, eqb-false}
 use Rattle.base.proofs.TestLaws.{Tested, holds, fails, test}
 use Rattle.ledger.specs.declared.Ledger.{Ledger}
-use Rattle.ledger.specs.declared.Taken.{Taken}
 use Rattle.ledger.specs.Sound.{sound_ledger}
-use Rattle.ledger.specs.Take.{unsound}
+use Rattle.ledger.specs.Take.{Taken, unsound}
 use Rattle.c_words.specs.Words.{ledger_words, words_fit, ledger_in, words_of}
 use Rattle.c_words.specs.Header.{header_word, headed, answered, if_accepted}
 use Rattle.c_words.specs.Inside.{no_ledger, lent_ledger, written, settled}

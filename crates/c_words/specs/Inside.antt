@@ -3,7 +3,7 @@ use Rattle.std.specs.Prelude.{ℕ, ◌+◌, List, [], ◌∷◌, ◌&&◌, cond,
 use Rattle.codes.specs.Codes.{rows}
 use Rattle.fields.specs.Fields.{no_sheet}
 use Rattle.ledger.specs.declared.Ledger.{Ledger}
-use Rattle.ledger.specs.declared.Taken.{Taken}
+use Rattle.ledger.specs.Take.{Taken}
 use Rattle.annex.specs.Figures.{customers, half_minutes}
 use Rattle.ledger.specs.declared.Cell.{Cell}
 use Rattle.ledger.specs.declared.TypeRow.{TypeRow}

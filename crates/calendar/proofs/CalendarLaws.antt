@@ -1,7 +1,8 @@
 -- The calendar there and back: the date of a minute has that minute, no date has a minute past the year's, and a date that the year has is the date of
 -- its minute. Assumes nothing.
 use Prim.Native.Nat.{ℕ, zero, suc, ◌+◌, ◌-◌, ◌*◌, ◌/◌, ◌%◌, ◌<◌, ◌≤◌}
-use mathlib.Core.Path.{◌≡◌, refl, ◌∙◌, ap}
+use Rattle.std.specs.Prelude.{Option, Some, None}
+use mathlib.Core.Path.{◌≡◌, refl, sym, ◌∙◌, ap}
 use mathlib.Core.Bool.{Bool, true, false, cond, false≢true}
 use mathlib.Core.List.{List, [], ◌∷◌}
 use lib.ListN.{length, get_or}
@@ -11,9 +12,9 @@ use native.Mathlib.Omega.{arith}
 use borrow.Author.Tests.{ltb-true, ltb-false, lt-ltb, le-ltb, lt-leb, eqb-false}
 use Rattle.base.proofs.TestLaws.{Tested, holds, fails, test}
 use Rattle.annex.specs.Times.{minutes_in}
-use Rattle.calendar.specs.Calendar.{months, days_in, month_in, day_in, date_of, days_up_to, days_before, no_minute, minute_of}
+use Rattle.calendar.specs.Calendar.{months, days_in, month_in, day_in, date_of, days_up_to, days_before, no_minute, minute_of, minute_in}
 use Rattle.calendar.specs.declared.Date.{Date}
-use Rattle.calendar.specs.declared.Minute.{Minute}
+use Rattle.calendar.specs.Calendar.{Minute}
 use Rattle.calendar.proofs.MonthLaws.{days_listed, days_at_most, days_of, up_to_with, year_days, minute_there}
 
 -- the m-th month (from 1) of some has the x-th day (from 1), which is their d-th (from 0)
@@ -198,3 +199,10 @@ minute_date year d e =
     let day : day_in (months year) (value_of year d / 1440) ≡ d.day = rw days (day_of_day year d.month d.day h.day_from h.day_to) in
     ap (λ (m : Minute). date_of year m.value) (in_year_minute year d h) ∙
     λ i. record { month = month i; day = day i; hour = hour i; minute = minute i }
+
+-- what the code answers is told by what the definition says
+pub same_minute : (s t : Option ℕ) → minute_in s ≡ minute_in t → s ≡ t
+same_minute None None e = refl
+same_minute None (Some t) e = absurd (false≢true (ap (λ (m : Minute). m.there) e))
+same_minute (Some s) None e = absurd (false≢true (sym (ap (λ (m : Minute). m.there) e)))
+same_minute (Some s) (Some t) e = ap (λ (m : Minute). Some m.value) e

@@ -1,15 +1,16 @@
 -- A month's days by its number, and the months of a year walked one by one, as the loops walk them. Assumes nothing.
-use Prim.Native.Nat.{ℕ, zero, suc, ◌+◌, ◌-◌, ◌*◌, ◌/◌, ◌%◌, ◌<◌, ◌≤◌}
+use Prim.Native.Nat.{ℕ, zero, suc, ◌+◌, ◌-◌, ◌*◌, ◌/◌, ◌%◌, ◌<◌, ◌≤◌, min}
 use mathlib.Core.Path.{◌≡◌, refl, sym, ◌∙◌}
 use mathlib.Core.Bool.{Bool, true, false, cond}
 use mathlib.Core.List.{List, [], ◌∷◌}
 use lib.ListN.{length, get_or, drop, drop_of_length-le, get_or-eq_default}
 use lib.Seq.{drop-cons}
-use lib.Dec.{eqb}
+use lib.Dec.{eqb, leb}
 use native.Mathlib.Omega.{arith}
 use native.Mathlib.Nat.{le_of_suc-le-suc, not-suc-le-zero}
-use borrow.Author.Tests.{lt-ltb, le-ltb, le-leb, lt-leb, eq-eqb, ne_eqb}
-use Rattle.calendar.specs.Calendar.{months, days_in, month_in, day_in, days_up_to, date_of, days_before, no_minute, minute_of}
+use borrow.Author.Tests.{leb-true, leb-false, lt-ltb, le-ltb, le-leb, lt-leb, eq-eqb, ne_eqb}
+use Rattle.base.proofs.TestLaws.{Tested, holds, fails, test}
+use Rattle.calendar.specs.Calendar.{months, days_in, month_in, day_in, days_up_to, date_of, days_before, minute_of}
 use Rattle.calendar.specs.declared.Date.{Date}
 
 -- February of a year divisible by 4, and of another
@@ -46,6 +47,8 @@ long_month year (suc (suc (suc (suc (suc (suc (suc (suc (suc (suc zero))))))))))
 long_month year (suc (suc (suc (suc (suc (suc (suc (suc (suc (suc (suc zero))))))))))) n0 h n2 n4 n6 n9 n11 = absurd (n11 refl)
 long_month year (suc (suc (suc (suc (suc (suc (suc (suc (suc (suc (suc (suc zero)))))))))))) n0 h n2 n4 n6 n9 n11 = refl
 long_month year (suc (suc (suc (suc (suc (suc (suc (suc (suc (suc (suc (suc (suc m))))))))))))) n0 h n2 n4 n6 n9 n11 = absurd (omega arith)
+
+pub ruleset days_known = (february_leap, february, past_december, long_month)
 
 -- the days of a month stand in the year's list, at the month's number less 1
 pub days_listed : (year month : ℕ) → 1 ≤ month → days_in year month ≡ get_or (months year) (month - 1) 0
@@ -160,6 +163,8 @@ module _ (year d₀ month d : ℕ) (h : Dated year d₀ month d) where
   pub day_passed : 12 < month → d + 1 ≡ day_in (months year) d₀
   day_passed k = sym (h.day_left ∙ day_none (months year) (month - 1) d (omega arith))
 
+pub ruleset months_searched = (dated_begins, dated_on, month_found, day_found, month_passed, day_passed)
+
 -- a date by its month and day
 pub date_is :
     (year t month day : ℕ)
@@ -199,11 +204,18 @@ module _ (year month m days : ℕ) (h : Summed year month m days) where
       }
 
   -- at the month asked for or past it, and past December, it is the days before that month
-  pub summed_here : month ≤ m → days ≡ days_before year month
+  summed_here : month ≤ m → days ≡ days_before year month
   summed_here k = omega (arith, h.left, up_to_here (months year) (m - 1) (month - (m - 1)) (omega arith))
 
-  pub summed_all : 12 < m → days ≡ days_before year month
+  summed_all : 12 < m → days ≡ days_before year month
   summed_all k = omega (arith, h.left, up_to_none (months year) (m - 1) (month - (m - 1)) (omega arith))
+
+  pub summed_end : min month 13 ≤ m → days ≡ days_before year month
+  summed_end k = go (test (leb month m))
+    where
+      go : Tested (leb month m) → days ≡ days_before year month
+      go (holds e) = summed_here (leb-true month m e)
+      go (fails e) = let past : m < month = leb-false month m e in summed_all (omega arith)
 
 -- the days of some months together; before a month and in it are no more
 abbrev pub days_of : List ℕ → ℕ
@@ -239,31 +251,14 @@ pub before_at_most : (year month : ℕ) → days_before year month ≤ 366
 unfolding days_before
 before_at_most year month = omega (arith, up_to_few (months year) month, year_days year, year_few (eqb (year % 4) 0))
 
--- the minute of a date, by the test that refuses the date, or by none
-module _ (year : ℕ) (d : Date) where
-  pub day_zero : d.day ≡ 0 → minute_of year d ≡ no_minute
-  unfolding minute_of
-  day_zero e = rw (eq-eqb d.day 0 e)
-
-  module _ (n : d.day ≡ 0 → ⊥) where
-    pub day_past_month : days_in year d.month < d.day → minute_of year d ≡ no_minute
-    unfolding minute_of
-    day_past_month l = rw (ne_eqb d.day 0 n, lt-ltb (days_in year d.month) d.day l)
-
-    module _ (a : d.day ≤ days_in year d.month) where
-      pub hour_past : 23 < d.hour → minute_of year d ≡ no_minute
-      unfolding minute_of
-      hour_past l = rw (ne_eqb d.day 0 n, le-ltb (days_in year d.month) d.day a, lt-ltb 23 d.hour l)
-
-      module _ (b : d.hour ≤ 23) where
-        pub minute_past : 59 < d.minute → minute_of year d ≡ no_minute
-        unfolding minute_of
-        minute_past l =
-            rw (ne_eqb d.day 0 n, le-ltb (days_in year d.month) d.day a, le-ltb 23 d.hour b, lt-ltb 59 d.minute l)
-
-        pub minute_there :
-            d.minute ≤ 59
-            → minute_of year d ≡ record { there = true; value = (days_before year d.month + (d.day - 1)) * 1440 + d.hour * 60 + d.minute }
-        unfolding minute_of
-        minute_there l =
-            rw (ne_eqb d.day 0 n, le-ltb (days_in year d.month) d.day a, le-ltb 23 d.hour b, le-ltb 59 d.minute l)
+-- the minute of a date that the year has
+pub minute_there :
+    (year : ℕ) (d : Date)
+    → (d.day ≡ 0 → ⊥)
+    → d.day ≤ days_in year d.month
+    → d.hour ≤ 23
+    → d.minute ≤ 59
+    → minute_of year d ≡ record { there = true; value = (days_before year d.month + (d.day - 1)) * 1440 + d.hour * 60 + d.minute }
+unfolding minute_of
+minute_there year d n a b l =
+    rw (ne_eqb d.day 0 n, le-ltb (days_in year d.month) d.day a, le-ltb 23 d.hour b, le-ltb 59 d.minute l)

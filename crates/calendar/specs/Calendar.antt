@@ -1,7 +1,11 @@
 -- "Times are minutes from 1 January 00:00 of the reporting year" (01, "Bytes on the wire"), as people write them: month, day, hour and minute.
-use Rattle.std.specs.Prelude.{ℕ, zero, suc, ◌+◌, ◌-◌, ◌*◌, ◌/◌, ◌%◌, List, [], ◌∷◌, true, false, cond, eqb, ltb, leb, get_or}
+use Rattle.std.specs.Prelude.{ℕ, zero, suc, ◌+◌, ◌-◌, ◌*◌, ◌/◌, ◌%◌, List, [], ◌∷◌, true, false, cond, eqb, ltb, leb, get_or, Bool, Option, Some, None}
 use Rattle.calendar.specs.declared.Date.{Date}
-use Rattle.calendar.specs.declared.Minute.{Minute}
+
+-- whether a year has a date, and its minute; 0 where it has not
+pub record Minute : Type 0 where
+  pub there : Bool
+  pub value : ℕ
 
 -- the days of the months of a year from 2000 to 2099: "a year divisible by 4 has 527,040 minutes, others 525,600"
 abbrev pub months : ℕ → List ℕ
@@ -49,3 +53,8 @@ minute_of year d =
     (cond (ltb 23 d.hour) no_minute
     (cond (ltb 59 d.minute) no_minute
     (record { there = true; value = (days_before year d.month + (d.day - 1)) * 1440 + d.hour * 60 + d.minute }))))
+
+-- what the code answers, as the definition says it
+abbrev pub minute_in : Option ℕ → Minute
+minute_in None = no_minute
+minute_in (Some t) = record { there = true; value = t }

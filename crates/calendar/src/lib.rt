@@ -1,8 +1,8 @@
 // Minutes from 1 January 00:00 of a year as a month, a day, an hour and a minute, and back.
 #![tactic(auto)]
 
-ghost use Rattle.std.specs.Prelude.{◌≡◌};
-ghost use Rattle.calendar.specs.Calendar.{days_in, date_of, minute_of};
+ghost use Rattle.std.specs.Prelude.{◌≡◌, ◌<◌};
+ghost use Rattle.calendar.specs.Calendar.{months, days_in, month_in, day_in, date_of, minute_of, minute_in};
 
 // A day of a year by its month and its number in it, both from 1, and a time of that day.
 #[derive(Clone, Copy)]
@@ -13,114 +13,73 @@ pub struct Date {
     pub minute: u32,
 }
 
-// Whether a year has a date, and its minute; 0 where it has not.
-#[derive(Clone, Copy)]
-pub struct Minute {
-    pub there: bool,
-    pub value: u32,
-}
-
 // The days of a month of a year from 2000 to 2099, from 1 for January; past December none.
+#[tactic(auto, using(crate::proofs::MonthLaws::days_known), unfolding(crate::specs::Calendar::days_in))]
 fn days_in(year: u16, month: u32) -> u32
     ensures { result ≡ days_in year month }
 {
-    if month == 2 {
-        if year % 4 == 0 {
-            return 29;
+    match month {
+        2 if year % 4 == 0 => 29,
+        2 => 28,
+        4 | 6 | 9 | 11 => 30,
+        1..=12 => 31,
+        _ => 0,
+    }
+}
+
+// The month that a day of a year falls in, the day counted from 0, and its number there, from 1. Past the year's end the month is 13, and the days go on.
+#[tactic(auto, using(crate::proofs::MonthLaws::months_searched))]
+fn day_of(year: u16, day: u32) -> (u32, u32)
+    requires { day < 4294967295 }
+    ensures month { result.0 ≡ month_in (months year) day }
+    ensures day { result.1 ≡ day_in (months year) day }
+{
+    let mut left = day;
+    for month in 1..=12 {
+        let days = days_in(year, month);
+        if left < days {
+            return (month, left + 1);
         }
-        return 28;
+        left -= days;
     }
-    if month == 0 {
-        return 0;
-    }
-    if 12 < month {
-        return 0;
-    }
-    if month == 4 {
-        return 30;
-    }
-    if month == 6 {
-        return 30;
-    }
-    if month == 9 {
-        return 30;
-    }
-    if month == 11 {
-        return 30;
-    }
-    31
+    (13, left + 1)
 }
 
 // The date of a minute of a year. Past the year's end the month is 13, and the days go on.
+#[tactic(auto, using(crate::proofs::MonthLaws::date_is))]
 pub fn date_of(year: u16, time: u32) -> Date
     ensures { result ≡ date_of year time }
 {
-    let mut month: u32 = 1;
-    let mut day = time / 1440;
-    while month <= 12 {
-        let days = days_in(year, month);
-        if day < days {
-            break;
-        }
-        day -= days;
-        month += 1;
-    }
+    let (month, day) = day_of(year, time / 1440);
     Date {
         month,
-        day: day + 1,
+        day,
         hour: time % 1440 / 60,
         minute: time % 60,
     }
 }
 
 // The days of a year before a month.
+#[tactic(auto, using(crate::proofs::MonthLaws::summed_begins, crate::proofs::MonthLaws::days_at_most))]
 fn days_before(year: u16, month: u32) -> u32
     ensures { result ≡ Rattle.calendar.specs.Calendar.days_before year month }
 {
-    let mut m: u32 = 1;
-    let mut days: u32 = 0;
-    while m <= 12 {
-        if month <= m {
-            return days;
-        }
+    let mut days = 0;
+    for m in 1..month.min(13) {
         days += days_in(year, m);
-        m += 1;
     }
     days
 }
 
 // The minute of a date, where the year has that date.
-pub fn minute_of(year: u16, date: Date) -> Minute
-    ensures { result ≡ minute_of year date }
+#[tactic(auto, using(crate::proofs::MonthLaws::days_at_most, crate::proofs::MonthLaws::before_at_most), unfolding(crate::specs::Calendar::minute_of))]
+pub fn minute_of(year: u16, date: Date) -> Option<u32>
+    ensures { minute_in result ≡ minute_of year date }
 {
     let days = days_in(year, date.month);
-    if date.day == 0 {
-        return Minute {
-            there: false,
-            value: 0,
-        };
-    }
-    if days < date.day {
-        return Minute {
-            there: false,
-            value: 0,
-        };
-    }
-    if 23 < date.hour {
-        return Minute {
-            there: false,
-            value: 0,
-        };
-    }
-    if 59 < date.minute {
-        return Minute {
-            there: false,
-            value: 0,
-        };
+    if date.day == 0 || days < date.day || 23 < date.hour || 59 < date.minute {
+        return None;
     }
     let day = days_before(year, date.month) + (date.day - 1);
-    Minute {
-        there: true,
-        value: day * 1440 + date.hour * 60 + date.minute,
-    }
+    Some(day * 1440 + date.hour * 60 + date.minute)
 }

@@ -1,16 +1,15 @@
 -- Laws of the code lists: bounds on rows and levels, what the lists hold and what they leave out, computed from the definitions. Assumes nothing.
+use Rattle.std.specs.List.{list_any}
 use Prim.Native.Nat.{ℕ, zero, suc, ◌+◌, ◌-◌, ◌<◌, ◌≤◌}
 use mathlib.Core.Path.{◌≡◌, refl, sym, ap, ◌∙◌}
 use mathlib.Core.Bool.{Bool, true, false, ◌&&◌, ◌||◌, cond, false≢true}
 use mathlib.Core.List.{List, [], ◌∷◌, map}
-use lib.ListN.{length, replicate, get_or, drop, drop_of_length-le}
-use lib.Seq.{drop-cons}
+use lib.ListN.{replicate}
 use lib.Dec.{eqb, leb}
-use native.Mathlib.Numerals.{add-one}
 use native.Mathlib.Omega.{arith}
-use borrow.Author.Tests.{eq-eqb, ne_eqb, leb-true, le-leb, lt-leb}
-use Rattle.base.specs.Lists.{every}
-use Rattle.base.proofs.TestLaws.{and_left, and_right}
+use borrow.Author.Tests.{eq-eqb, ne_eqb, eqb-true, eqb-false, leb-true, le-leb, lt-leb}
+use Rattle.base.specs.Lists.{every, listed}
+use Rattle.base.proofs.TestLaws.{Tested, holds, fails, test, and_left, and_right}
 use Rattle.base.proofs.PlaceLaws.{number_at_most}
 use Rattle.codes.specs.Codes.{types, rows, levels, row_of, voltages, level_in, level_of, level_by_ranges, causes, cause_listed, row_held}
 use Rattle.codes.specs.declared.Set.{Set}
@@ -35,22 +34,17 @@ pub row_at_most : (typ : ℕ) → row_of typ ≤ rows
 unfolding row_of
 row_at_most typ = number_at_most typ types
 
--- a lookup in a table, row by row, as a loop meets it
-module _ (voltage : ℕ) (t : List Voltage) (i : ℕ) where
-  in_one : i < length t → level_in voltage (drop i t) ≡ cond (eqb voltage (get_or t i (0, 0)).0) (get_or t i (0, 0)).1 (level_in voltage (drop (i + 1) t))
-  in_one l = rw (add-one, drop-cons t i (0, 0) l) refl
+-- the library's search of a list finds what is listed
+pub listed_by_any : (x : ℕ) (ys : List ℕ) → list_any (λ y. eqb y x) ys ≡ listed x ys
+listed_by_any x [] = refl
+listed_by_any x (y ∷ ys) = λ i. turned i || listed_by_any x ys i
+  where
+    go : Tested (eqb x y) → eqb y x ≡ eqb x y
+    go (holds e) = eq-eqb y x (sym (eqb-true x y e)) ∙ sym e
+    go (fails e) = ne_eqb y x (λ s. eqb-false x y e (sym s)) ∙ sym e
 
-  -- the row at i has the code
-  pub in_here : i < length t → voltage ≡ (get_or t i (0, 0)).0 → level_in voltage (drop i t) ≡ (get_or t i (0, 0)).1
-  in_here l e = in_one l ∙ ap (λ b. cond b (get_or t i (0, 0)).1 (level_in voltage (drop (i + 1) t))) (eq-eqb voltage (get_or t i (0, 0)).0 e)
-
-  -- it has another
-  pub in_past : i < length t → (voltage ≡ (get_or t i (0, 0)).0 → ⊥) → level_in voltage (drop i t) ≡ level_in voltage (drop (i + 1) t)
-  in_past l n = in_one l ∙ ap (λ b. cond b (get_or t i (0, 0)).1 (level_in voltage (drop (i + 1) t))) (ne_eqb voltage (get_or t i (0, 0)).0 n)
-
-  -- no row is left
-  pub in_none : length t ≤ i → level_in voltage (drop i t) ≡ levels
-  in_none h = ap (level_in voltage) (drop_of_length-le t h)
+    turned : eqb y x ≡ eqb x y
+    turned = go (test (eqb x y))
 
 -- no row of the table has a level past the last
 in_at_most : (voltage : ℕ) (rs : List Voltage) → every (λ r. leb r.1 levels) rs ≡ true → level_in voltage rs ≤ levels

@@ -2,7 +2,6 @@
 #![tactic(auto)]
 
 ghost use Rattle.std.specs.Prelude.{◌≡◌};
-ghost use Rattle.base.specs.Lists.{listed};
 ghost use Rattle.codes.specs.Codes.{row_of, level_in, level_of, cause_listed, row_held};
 ghost use Rattle.codes.specs.declared.Set.TheVariants.{Std};
 
@@ -62,27 +61,21 @@ pub enum Set {
 pub fn row_of(typ: u8) -> u8
     ensures { result ≡ row_of typ }
 {
-    let fault = (11 <= typ) & (typ <= 16);
-    if fault {
-        return typ - 11;
+    match typ {
+        11..=16 => typ - 11,
+        2 => 6,
+        _ => NO_ROW,
     }
-    if typ == 2 {
-        return 6;
-    }
-    NO_ROW
 }
 
 // The lookup: the level in the first row that has the code; NO_LEVEL where none has it.
 fn level_in(table: [Voltage; 7], voltage: u8) -> u8
     ensures { result ≡ level_in voltage table }
 {
-    let mut i = 0;
-    while i < 7 {
-        let row = table[i];
+    for row in &table {
         if voltage == row.0 {
             return row.1;
         }
-        i += 1;
     }
     NO_LEVEL
 }
@@ -94,25 +87,11 @@ pub fn level_of(voltage: u8) -> u8
     level_in(VOLTAGES, voltage)
 }
 
-// The lookup, in a table of 22 codes. At a constant table the compiler makes one test of bits of it.
-fn in_table(table: [u8; 22], code: u8) -> bool
-    ensures { result ≡ listed code table }
-{
-    let mut i = 0;
-    while i < 22 {
-        if code == table[i] {
-            return true;
-        }
-        i += 1;
-    }
-    false
-}
-
 // Whether a cause is listed; 0 means not recorded and counts as listed.
 pub fn is_cause(cause: u8) -> bool
     ensures { result ≡ cause_listed cause }
 {
-    (cause == 0) | in_table(CAUSES, cause)
+    (cause == 0) | CAUSES.contains(&cause)
 }
 
 // Whether a row is that of a compliance type: 11, 12 or 2.
@@ -128,7 +107,6 @@ pub fn holds_row(set: Set, row: u8) -> bool
 {
     match set {
         Set::All => row < NO_ROW,
-        Set::Std => is_compliance(row),
-        Set::Unnamed => is_compliance(row),
+        Set::Std | Set::Unnamed => is_compliance(row),
     }
 }

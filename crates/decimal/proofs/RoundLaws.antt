@@ -1,5 +1,6 @@
 -- `rounded` is the one number of units that is nearest, and what a decimal shows is that number. Assumes nothing.
 use Prim.Native.Nat.{ℕ, ◌+◌, ◌*◌, ◌/◌, ◌%◌, ◌^◌, ◌<◌, ◌≤◌}
+use Rattle.std.specs.Prelude.{Ok, Err}
 use mathlib.Core.Path.{◌≡◌, refl, sym, ◌∙◌, ap, subst}
 use native.Mathlib.Omega.{arith}
 use native.Mathlib.Nat.{add_assoc, mul_assoc, mul_left_comm, mul_right_comm, add-mul, mul-le-mul_right, eq_of_mul-eq-mul_right, div-add-mod', mod-lt}
@@ -8,7 +9,7 @@ use Rattle.ratio.specs.declared.Fraction.{Fraction}
 use Rattle.ratio.specs.Lowest.{gcd_of, lowest_of}
 use Rattle.ratio.proofs.Euclid.{gcd_pos, parts_times_gcd, lowest_lowest}
 use Rattle.decimal.specs.declared.Division.{Division}
-use Rattle.decimal.specs.declared.Shown.TheVariants.{Is, Refused}
+use Rattle.refusals.specs.declared.Refusal.TheVariants.{Nobody, Digits}
 use Rattle.decimal.specs.Decimal.{Nearest, rounded, split_at, decimal_of, shown_of, Divided}
 use Rattle.decimal.proofs.DivisionLaws.{one_more_time, ten_power_pos, split_under, whole_before_digits}
 
@@ -124,14 +125,14 @@ lowest_decimal n d k p =
     ap (λ (v : ℕ). split_at v (10 ^ k)) (nearest_unique n d k (rounded f.top f.bottom k) (rounded n d k) near (rounded_nearest n d k p))
 
 -- without a bottom 17; else with more than 6 digits 18; else the decimal
-pub no_bottom_17 : (f : Fraction) (k : ℕ) → f.bottom ≡ 0 → shown_of f k ≡ Refused 17
+pub no_bottom_17 : (f : Fraction) (k : ℕ) → f.bottom ≡ 0 → shown_of f k ≡ Err Nobody
 unfolding shown_of
 no_bottom_17 f k e = rw (eq-eqb f.bottom 0 e) refl
 
-pub too_many_18 : (f : Fraction) (k : ℕ) → (f.bottom ≡ 0 → ⊥) → 6 < k → shown_of f k ≡ Refused 18
+pub too_many_18 : (f : Fraction) (k : ℕ) → (f.bottom ≡ 0 → ⊥) → 6 < k → shown_of f k ≡ Err Digits
 unfolding shown_of
 too_many_18 f k exists h = rw (ne_eqb f.bottom 0 exists, lt-ltb 6 k h) refl
 
-pub else_shown : (f : Fraction) (k : ℕ) → (f.bottom ≡ 0 → ⊥) → k ≤ 6 → shown_of f k ≡ Is (decimal_of f k)
+pub else_shown : (f : Fraction) (k : ℕ) → (f.bottom ≡ 0 → ⊥) → k ≤ 6 → shown_of f k ≡ Ok (decimal_of f k)
 unfolding shown_of
 else_shown f k exists h = rw (ne_eqb f.bottom 0 exists, le-ltb 6 k h) refl

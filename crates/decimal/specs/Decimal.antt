@@ -1,12 +1,13 @@
 -- "A decimal call answers two numbers, the whole part and the d digits after it, rounded to nearest, a tie upward" (01, "Indices").
-use Rattle.std.specs.Prelude.{ℕ, ◌+◌, ◌*◌, ◌/◌, ◌%◌, ◌^◌, ◌<◌, ◌≤◌, ◌≡◌, List, [], ◌∷◌, cond, get_or, ltb, eqb}
+use Rattle.std.specs.Prelude.{ℕ, ◌+◌, ◌*◌, ◌/◌, ◌%◌, ◌^◌, ◌<◌, ◌≤◌, ◌≡◌, List, [], ◌∷◌, cond, get_or, ltb, eqb, Result, Ok, Err}
 use Rattle.base.specs.First.{Rule, first}
+use Rattle.refusals.specs.declared.Refusal.{Refusal}
+use Rattle.refusals.specs.declared.Refusal.TheVariants.{Nobody, Digits}
+use Rattle.refusals.specs.Refusals.{number_of}
 use Rattle.ratio.specs.declared.Fraction.{Fraction}
 use Rattle.decimal.specs.declared.Decimal.{Decimal}
 use Rattle.decimal.specs.declared.Digit.{Digit}
 use Rattle.decimal.specs.declared.Division.{Division}
-use Rattle.decimal.specs.declared.Shown.{Shown}
-use Rattle.decimal.specs.declared.Shown.TheVariants.{Is, Refused}
 
 -- v units of the last of k digits are nearest to n / d: at most half a unit away, and above where it is exactly half
 pub record Nearest (n d k v : ℕ) : Type 0 where
@@ -28,13 +29,13 @@ unfoldable pub decimal_of : Fraction → ℕ → Decimal
 decimal_of f k = split_at (rounded f.top f.bottom k) (10 ^ k)
 
 -- 17 comes before 18
-unfoldable pub shown_of : Fraction → ℕ → Shown
-shown_of f k = cond (eqb f.bottom 0) (Refused 17) (cond (ltb 6 k) (Refused 18) (Is (decimal_of f k)))
+unfoldable pub shown_of : Fraction → ℕ → Result Decimal Refusal
+shown_of f k = cond (eqb f.bottom 0) (Err Nobody) (cond (ltb 6 k) (Err Digits) (Ok (decimal_of f k)))
 
 -- the answer in 01's numbers: 0, the whole part and the digits; or the refusal
-abbrev pub decimally : Shown → List ℕ
-decimally (Is d) = 0 ∷ d.whole ∷ d.digits ∷ []
-decimally (Refused n) = n ∷ []
+abbrev pub decimally : Result Decimal Refusal → List ℕ
+decimally (Ok d) = 0 ∷ d.whole ∷ d.digits ∷ []
+decimally (Err r) = number_of r ∷ []
 
 -- the refusals of a fraction's decimal, in the order of checking; 18: "more than 6 decimals asked"
 abbrev pub shown_rules : Fraction → ℕ → List Rule

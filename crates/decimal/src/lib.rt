@@ -5,19 +5,13 @@ ghost use Rattle.std.specs.Prelude.{◌≡◌, ◌+◌, ◌*◌, ◌<◌, ◌≤
 ghost use Rattle.decimal.specs.Decimal.{decimally, shown_numbers, split_at, Tenfold, Divided};
 
 use ratio::Fraction;
+use refusals::Refusal;
 
 // The whole part, and the digits after the point as one number.
 #[derive(Clone, Copy)]
 pub struct Decimal {
     pub whole: u64,
     pub digits: u64,
-}
-
-// A decimal, or the number of a refusal.
-#[derive(Clone, Copy)]
-pub enum Shown {
-    Is(Decimal),
-    Refused(u8),
 }
 
 // One digit of a long division: ten times the rest before, split into digit and rest.
@@ -42,15 +36,13 @@ fn tenfold(rest: u64, d: u64) -> Digit
 {
     let mut digit: u64 = 0;
     let mut sum: u64 = 0;
-    let mut k: u64 = 0;
-    while k < 10 {
+    for _k in 0..10u8 {
         if d - rest <= sum {
-            sum = sum - (d - rest);
+            sum -= d - rest;
             digit += 1;
         } else {
-            sum = sum + rest;
+            sum += rest;
         }
-        k += 1;
     }
     Digit { digit, rest: sum }
 }
@@ -65,15 +57,13 @@ fn divide(m: u64, d: u64, digits: u8) -> Division
         digits: 0,
         rest: m,
     };
-    let mut k: u8 = 0;
-    while k < digits {
+    for _k in 0..digits {
         let t = tenfold(x.rest, d);
         x = Division {
             power: x.power * 10,
             digits: x.digits * 10 + t.digit,
             rest: t.rest,
         };
-        k += 1;
     }
     x
 }
@@ -93,22 +83,22 @@ fn carried(whole: u64, power: u64, digits: u64) -> Decimal
 }
 
 // A fraction with so many digits after the point: 17 where its bottom is 0, then 18 for more than 6 digits.
-pub fn decimal_of(f: Fraction, digits: u8) -> Shown
+pub fn decimal_of(f: Fraction, digits: u8) -> Result<Decimal, Refusal>
     ensures { decimally result ≡ shown_numbers f digits }
 {
     let d = f.bottom;
     if d == 0 {
-        return Shown::Refused(17);
+        return Err(Refusal::Nobody);
     }
     if 6 < digits {
-        return Shown::Refused(18);
+        return Err(Refusal::Digits);
     }
     let whole = f.top / d;
     let x = divide(f.top % d, d, digits);
     if d - x.rest <= x.rest {
-        return Shown::Is(carried(whole, x.power, x.digits + 1));
+        return Ok(carried(whole, x.power, x.digits + 1));
     }
-    Shown::Is(Decimal {
+    Ok(Decimal {
         whole,
         digits: x.digits,
     })

@@ -12,7 +12,8 @@ use contract.Monad.{Fun, fact}
 use denote.Triple.Entry.{Args, Res}
 use denote.Triple.Clauses.{Ended, Lasts, AtExit, at_exit}
 use Rattle.base.proofs.OneOutcome.{alike}
-use Rattle.desk_rules.specs.Serve.{served_of, map_served, desk_served}
+use Rattle.desk_rules.specs.Serve.{served_of, served_in, map_served, desk_served}
+use Rattle.desk_rules.proofs.ServeLaws.{same_served}
 use Rattle.desk.specs.contracts.serve as serve
 
 -- a claim of the lifetimes, the arguments, the result and the parameters at exit
@@ -30,7 +31,7 @@ OneOutcomeOf T Post =
 -- what `serve` promises: of ledger a .0, map a .1 .0, desk a .1 .1 .0 and message a .1 .1 .1 .0, with map e .1 .0 and desk e .1 .1 .0 at exit
 abbrev pub Promise : Claim serve.ended
 Promise κs a r e =
-    (r ≡ served_of a.0 a.1.0.now a.1.1.0.now a.1.1.1.0.now) ×
+    (served_in a.0 r ≡ served_of a.0 a.1.0.now a.1.1.0.now a.1.1.1.0.now) ×
     (e.1.0.now ≡ map_served a.0 a.1.0.now a.1.1.0.now a.1.1.1.0.now) ×
     (e.1.1.0.now ≡ desk_served a.0 a.1.0.now a.1.1.0.now a.1.1.1.0.now)
 
@@ -40,4 +41,4 @@ pub serve_says : {M : Type 1} {𝓤 : Ura M} (𝓛 : Logic 𝓤) (mem : Memory �
 serve_says 𝓛 mem run κs a r e = refl
 
 pub serve_one : OneOutcomeOf serve.ended Promise
-serve_one κs a x y v w p q = (alike p.0 q.0, λ i. (tt, (alike p.1 q.1 i, (alike p.2 q.2 i, (tt, tt)))))
+serve_one κs a x y v w p q = (same_served a.0 x y (alike p.0 q.0), λ i. (tt, (alike p.1 q.1 i, (alike p.2 q.2 i, (tt, tt)))))

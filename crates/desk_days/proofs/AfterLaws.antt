@@ -14,8 +14,7 @@ use Rattle.used_numbers.specs.Marks.{marked, marked_with}
 use Rattle.used_numbers.proofs.MarkLaws.{marked_with_zero}
 use Rattle.fields.specs.Fields.{head_in}
 use Rattle.fields.specs.Tests.{head_listed}
-use Rattle.verdict.specs.declared.Verdict.{Verdict}
-use Rattle.verdict.specs.Verdict.{event_verdict}
+use Rattle.verdict.specs.Verdict.{Verdict, event_verdict}
 use Rattle.record.specs.Rules.{rules_at, not_listed, already_marked}
 use Rattle.record.specs.Verdict.{accepted_at}
 use Rattle.record.proofs.JudgeLaws.{accepted_rules}

@@ -26,8 +26,7 @@ use Rattle.fields.specs.Tests.{head_listed}
 use Rattle.codec.specs.Fits.{HeadInBytes, StepInBytes}
 use Rattle.codec.proofs.DecodeLaws.{stepped_head, stepped_back, stepped_length, stepped_framed}
 use Rattle.limits.specs.Limits.{exceeding, above_level, any_late}
-use Rattle.verdict.specs.declared.Verdict.{Verdict}
-use Rattle.verdict.specs.Verdict.{event_verdict}
+use Rattle.verdict.specs.Verdict.{Verdict, event_verdict}
 use Rattle.record.specs.Rules.{length_wrong, not_listed, time_wrong, count_too_large, count_too_high, already_marked, ledger_full}
 use Rattle.record.specs.Verdict.{verdict_of}
 use Rattle.ledger.specs.declared.Ledger.{Ledger}

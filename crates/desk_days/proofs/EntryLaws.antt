@@ -14,8 +14,7 @@ use Rattle.wire.specs.Frame.{kind_of}
 use Rattle.used_numbers.specs.Marks.{marked, marked_with, map_size}
 use Rattle.fields.specs.declared.Sheet.{Sheet}
 use Rattle.fields.specs.Fields.{head_in}
-use Rattle.verdict.specs.declared.Verdict.{Verdict}
-use Rattle.verdict.specs.Verdict.{event_verdict}
+use Rattle.verdict.specs.Verdict.{Verdict, event_verdict}
 use Rattle.record.specs.Rules.{kind_not_taken, sheet_missing_or_second, already_marked}
 use Rattle.record.specs.Verdict.{accepted_at}
 use Rattle.ledger.specs.declared.Ledger.{Ledger}

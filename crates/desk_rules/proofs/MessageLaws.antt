@@ -25,10 +25,9 @@ use Rattle.ledger.specs.Take.{unsound}
 use Rattle.slot.specs.declared.Slot.{Slot}
 use Rattle.slot.specs.Slot.{free_slot, opened_by, stepped_by}
 use Rattle.desk_scan.specs.Desk.{slot_count, desk_sound, place_of, slot_of, number_in}
-use Rattle.desk_rules.specs.declared.Plan.{Plan}
 use Rattle.desk_rules.specs.Rules.{look_at, ordinal_in, step_in, by_message, kind_not_taken, rules, rules_at}
 use Rattle.desk_rules.specs.Right.{OpenRight, StepRight, CloseRight}
-use Rattle.desk_rules.specs.Plan.{refused_plan, ledger_closed, accepted_plan, look_answer}
+use Rattle.desk_rules.specs.Plan.{Plan, refused_plan, ledger_closed, accepted_plan, look_answer}
 use Rattle.desk_rules.specs.Serve.{message_answer, planned, ledger_served, map_served, desk_served}
 use Rattle.desk_rules.proofs.PlanLaws.{plan_refused, plan_accepted}
 

@@ -1,10 +1,14 @@
 -- What a plan is, by its answer: callers cite these laws and not the definitions. Assumes nothing.
 use Prim.Native.Nat.{ℕ, ◌<◌, ◌≤◌}
 use mathlib.Core.Path.{◌≡◌, refl, sym, ◌∙◌, ap}
-use mathlib.Core.List.{List}
+use mathlib.Core.List.{List, [], ◌∷◌}
 use mathlib.Core.Bool.{Bool, true, false, cond, not}
-use lib.Dec.{eqb}
+use lib.Dec.{leb, eqb}
 use borrow.Author.Tests.{eq-eqb, ne_eqb, eqb-true, eqb-false, leb-false, not-false}
+use Rattle.std.specs.Prelude.{Result, Ok, Err}
+use Rattle.refusals.specs.declared.Refusal.{Refusal}
+use Rattle.refusals.specs.Refusals.{number_of, answer_in}
+use Rattle.refusals.proofs.NumberLaws.{no_refusal_0, same_refusal}
 use Rattle.base.specs.First.{first, Foremost, NoRule}
 use Rattle.base.proofs.FirstLaws.{clear, clear_at, then}
 use Rattle.base.proofs.TestLaws.{Tested, holds, fails, test, or_left, or_right}
@@ -22,10 +26,10 @@ use Rattle.ledger.specs.Sound.{sound_ledger}
 use Rattle.ledger.specs.Inside.{Fits}
 use Rattle.slot.specs.Sound.{slot_sound, open_sound}
 use Rattle.slot.proofs.SoundLaws.{steps_open, open_listed, open_within}
-use Rattle.desk_rules.specs.declared.Plan.{Plan}
 use Rattle.desk_rules.specs.Rules.{Look, ordinal_in, step_in, by_message, any_unsound, length_wrong, sheet_missing, not_listed, not_open, count_wrong, time_wrong, count_too_large, count_too_high, already_used, ledger_full, desk_full, rules_at, rules}
-use Rattle.desk_rules.specs.Inside.{answer_at, plan_at}
-use Rattle.desk_rules.specs.Plan.{refused_plan, accepted_plan, look_answer, plan_of}
+use Rattle.desk_rules.specs.declared.Plan.{Plan as Accepted}
+use Rattle.desk_rules.specs.Inside.{answer_at, plan_at, planned_in, step_tests}
+use Rattle.desk_rules.specs.Plan.{Plan, refused_plan, accepted_plan, look_answer, plan_of}
 
 module _ (kind : ℕ) (k : Look) (slots : ℕ) (l : Ledger) (m s : List ℕ) where
   -- read at a kind: an answer other than 0 has the plan of that refusal, the answer 0 the plan of an accepted message
@@ -49,6 +53,43 @@ module _ (kind : ℕ) (k : Look) (slots : ℕ) (l : Ledger) (m s : List ℕ) whe
   unfolding answer_at
   answered_rules e =
       clear_at (rules_at kind k l m s) (clear 2 (rules_at kind k l m s) (tt, (tt, (tt, (tt, (tt, (tt, (tt, (tt, (tt, (tt, (tt, (tt, tt)))))))))))) e)
+
+-- an outcome of a message's tests that is answered as its rules answer: a refusal is the plan's, and any other is an accepted message
+module _ (kind : ℕ) (k : Look) (slots : ℕ) (l : Ledger) (m s : List ℕ) {A : Type 0} (x : Result A Refusal) (answered : answer_in x ≡ answer_at kind k l m s) where
+  pub err_refused : (r : Refusal) → x ≡ Err r → refused_plan l slots (number_of r) ≡ plan_at kind k slots l m s
+  err_refused r e = sym (at_refused kind k slots l m s (number_of r) (sym answered ∙ ap answer_in e) (no_refusal_0 r))
+
+  pub ok_answers_0 : (a : A) → x ≡ Ok a → answer_at kind k l m s ≡ 0
+  ok_answers_0 a e = sym answered ∙ ap answer_in e
+
+-- no two outcomes come to the same plan
+pub same_plan : (l : Ledger) (slots : ℕ) (x y : Result Accepted Refusal) → planned_in l slots x ≡ planned_in l slots y → x ≡ y
+same_plan l slots (Ok a) (Ok b) same = ap (λ (p : Plan). Ok (record { ledger = p.served.ledger; at = p.at; slot = p.slot; number = p.number })) same
+same_plan l slots (Ok a) (Err s) same = absurd (no_refusal_0 s (sym (ap (λ (p : Plan). p.served.answer) same)))
+same_plan l slots (Err r) (Ok b) same = absurd (no_refusal_0 r (ap (λ (p : Plan). p.served.answer) same))
+same_plan l slots (Err r) (Err s) same = ap (λ t. Err t) (same_refusal r s (ap (λ (p : Plan). p.served.answer) same))
+
+-- the tests that a step and a close share, alone and before the rest of each
+abbrev pub shared : Bool → Bool → Bool → Bool → ℕ
+shared c5 c7 c8 c9 = first ((5, c5) ∷ (7, c7) ∷ (8, c8) ∷ (9, c9) ∷ [])
+
+abbrev pub shared_then : Bool → Bool → Bool → Bool → ℕ → ℕ
+shared_then c5 c7 c8 c9 rest = cond c5 5 (cond c7 7 (cond c8 8 (cond c9 9 rest)))
+
+-- a number that they answer is the answer, and where none of them applies the rest decides
+shared_answers : (c5 c7 c8 c9 : Bool) (rest n : ℕ) → shared c5 c7 c8 c9 ≡ n → (n ≡ 0 → ⊥) → shared_then c5 c7 c8 c9 rest ≡ n
+shared_answers true c7 c8 c9 rest n e z = e
+shared_answers false true c8 c9 rest n e z = e
+shared_answers false false true c9 rest n e z = e
+shared_answers false false false true rest n e z = e
+shared_answers false false false false rest n e z = absurd (z (sym e))
+
+shared_passed : (c5 c7 c8 c9 : Bool) (rest : ℕ) → shared c5 c7 c8 c9 ≡ 0 → shared_then c5 c7 c8 c9 rest ≡ rest
+shared_passed true c7 c8 c9 rest e = absurd (eqb-false 5 0 refl e)
+shared_passed false true c8 c9 rest e = absurd (eqb-false 7 0 refl e)
+shared_passed false false true c9 rest e = absurd (eqb-false 8 0 refl e)
+shared_passed false false false true rest e = absurd (eqb-false 9 0 refl e)
+shared_passed false false false false rest e = refl
 
 -- an accepted message's plan answers 0
 accepted_answer : (kind : ℕ) (k : Look) (l : Ledger) (s : List ℕ) → (accepted_plan kind k l s).served.answer ≡ 0
@@ -142,6 +183,28 @@ module _ (k : Look) (l : Ledger) (m s : List ℕ) where
       cond (sheet_missing 18 l) 5 (cond (not_listed 18 s) 7 (cond (not_open 18 k) 8 (cond (count_wrong 18 k s) 9 (cond (ledger_full 18 l) 15 0))))
   unfolding answer_at
   close_answer e = rw e
+
+  -- where the shared tests refuse a step or a close the plan does, and where they let it in the rest of its tests answer
+  module _ (slots : ℕ) {A : Type 0} (x : Result A Refusal) where
+    pub step_refused : length_wrong 17 s ≡ false → answer_in x ≡ shared (sheet_missing 17 l) (not_listed 17 s) (not_open 17 k) (count_wrong 17 k s) → (r : Refusal) → x ≡ Err r → refused_plan l slots (number_of r) ≡ plan_at 17 k slots l m s
+    step_refused long answered r e =
+        sym
+        (at_refused 17 k slots l m s (number_of r)
+        (step_answer long ∙ shared_answers _ _ _ _ _ (number_of r) (sym answered ∙ ap answer_in e) (no_refusal_0 r))
+        (no_refusal_0 r))
+
+    pub step_let_in : length_wrong 17 s ≡ false → answer_in x ≡ shared (sheet_missing 17 l) (not_listed 17 s) (not_open 17 k) (count_wrong 17 k s) → (a : A) → x ≡ Ok a → answer_at 17 k l m s ≡ first (step_tests (step_in s) l.sheet k.slot)
+    step_let_in long answered a e = step_answer long ∙ shared_passed _ _ _ _ _ (sym answered ∙ ap answer_in e)
+
+    pub close_refused : length_wrong 18 s ≡ false → answer_in x ≡ shared (sheet_missing 18 l) (not_listed 18 s) (not_open 18 k) (count_wrong 18 k s) → (r : Refusal) → x ≡ Err r → refused_plan l slots (number_of r) ≡ plan_at 18 k slots l m s
+    close_refused long answered r e =
+        sym
+        (at_refused 18 k slots l m s (number_of r)
+        (close_answer long ∙ shared_answers _ _ _ _ _ (number_of r) (sym answered ∙ ap answer_in e) (no_refusal_0 r))
+        (no_refusal_0 r))
+
+    pub close_let_in : length_wrong 18 s ≡ false → answer_in x ≡ shared (sheet_missing 18 l) (not_listed 18 s) (not_open 18 k) (count_wrong 18 k s) → (a : A) → x ≡ Ok a → answer_at 18 k l m s ≡ cond (leb most_events l.events) 15 0
+    close_let_in long answered a e = close_answer long ∙ shared_passed _ _ _ _ _ (sym answered ∙ ap answer_in e)
 
   -- an accepted step's time is in order
   pub step_timely : answer_at 17 k l m s ≡ 0 → (k.slot.last ≤ (step_in s).time) × ((step_in s).time ≤ latest)

@@ -7,27 +7,36 @@ use mathlib.Core.Logic.{◌≢◌}
 use mathlib.Core.List.{List, ◌∷◌}
 use mathlib.Core.Bool.{Bool, true, false, ◌&&◌, ◌||◌, not, cond, or-true}
 use lib.ListN.{length, get_or, set}
-use lib.Dec.{eqb}
+use lib.Seq.{set_out}
+use lib.Dec.{ltb, eqb}
 use native.Mathlib.Omega.{arith}
-use borrow.Author.Tests.{ne_eqb}
+use native.Mathlib.Nat.{le_refl}
+use borrow.Author.Tests.{eqb-true, ltb-false, ne_eqb}
+use Rattle.std.specs.Prelude.{Some, None, Result, Ok, Err}
+use Rattle.std.proofs.lemmas.List.{get_or_past}
 use Rattle.base.specs.First.{first}
-use Rattle.base.specs.Lists.{every}
+use Rattle.base.specs.Lists.{every, place}
+use Rattle.base.proofs.TestLaws.{Tested, holds, fails, test}
+use Rattle.refusals.specs.declared.Refusal.{Refusal}
+use Rattle.refusals.proofs.NumberLaws.{no_refusal_0, same_refusal}
 use Rattle.wire.specs.Frame.{kind_of}
 use Rattle.used_numbers.specs.Marks.{marked_with}
+use Rattle.used_numbers.proofs.MarkLaws.{marked_with_zero}
 use Rattle.record.specs.Rules.{unframed}
 use Rattle.ledger.specs.declared.Ledger.{Ledger}
 use Rattle.ledger.specs.Take.{unsound}
 use Rattle.slot.specs.declared.Slot.{Slot}
 use Rattle.slot.specs.Slot.{free_slot}
 use Rattle.slot.specs.Sound.{slot_sound}
-use Rattle.desk_scan.specs.Desk.{slot_count, numbers_of, differ, desk_sound}
-use Rattle.desk_scan.specs.Inside.{roll_of, roll_sound, place_named}
+use Rattle.desk_scan.specs.Desk.{slot_count, numbers_of, differ, desk_sound, number_in}
+use Rattle.desk_scan.specs.Inside.{roll_of, roll_sound, found, place_named}
 use Rattle.desk_scan.proofs.SearchLaws.{desk_each, desk_slots, sound_at}
 use Rattle.desk_scan.proofs.RollLaws.{roll_is, place_named_lem, place_free}
-use Rattle.desk_rules.specs.Inside.{look_by, plan_by}
+use Rattle.desk_rules.specs.Inside.{look_by, plan_by, slot_found, seen_of, look_seen, plan_seen, planned_in}
+use Rattle.desk_rules.specs.declared.Plan.{Plan as Accepted}
 use Rattle.desk_rules.specs.Rules.{Look, look_at, rules_at}
-use Rattle.desk_rules.specs.Plan.{refused_plan, accepted_plan, look_answer, plan_of}
-use Rattle.desk_rules.specs.Serve.{message_answer, planned, ledger_served, map_served, desk_served, served_of}
+use Rattle.desk_rules.specs.Plan.{Served, Plan, refused_plan, accepted_plan, look_answer, plan_of}
+use Rattle.desk_rules.specs.Serve.{message_answer, planned, ledger_served, map_served, desk_served, served_of, served_in}
 use Rattle.desk_rules.proofs.MessageLaws.{refused_same}
 use Rattle.desk_rules.proofs.PlanLaws.{plan_answer}
 
@@ -74,6 +83,27 @@ plan_is l m d s = go (desk_sound d) refl
         unsound_plan (look_by (length d) (roll_of d) (get_or d (place_named (roll_of d) s) free_slot) s) (length d) l m s (look_sound d (place_named (roll_of d) s) ∙ e) ∙
         sym (unsound_plan (look_at d s) (length d) l m s e)
 
+-- the slot that was found is the one at the search's end, where the desk has as many slots as its roll
+slot_is : (d : List Slot) (v : ℕ) (t : List ℕ) → length d ≡ slot_count → slot_found d (found v t) ≡ get_or d (place v t) free_slot
+slot_is d v t e = go (ltb (place v t) slot_count) refl
+  where
+    go : (b : Bool) → ltb (place v t) slot_count ≡ b → slot_found d (cond b (Some (place v t)) None) ≡ get_or d (place v t) free_slot
+    go true l = refl
+    go false l = sym (get_or_past d (place v t) free_slot (omega (arith, e, ltb-false (place v t) slot_count l)))
+
+-- so what a message sees of a desk has the plan of the desk: one that is not 32 slots is unsound, whatever slot was found
+pub plan_seen_is : (l : Ledger) (m : List ℕ) (d : List Slot) (s : List ℕ) → plan_seen (seen_of d s) l m s ≡ plan_of (look_at d s) (length d) l m s
+unfolding desk_sound
+plan_seen_is l m d s = go (test (eqb (length d) slot_count))
+  where
+    go : Tested (eqb (length d) slot_count) → plan_seen (seen_of d s) l m s ≡ plan_of (look_at d s) (length d) l m s
+    go (holds e) =
+        ap (λ slot. plan_by (length d) (roll_of d) slot l m s) (slot_is d (number_in s) (roll_of d).numbers (eqb-true _ _ e)) ∙
+        plan_is l m d s
+    go (fails e) =
+        unsound_plan (look_seen (seen_of d s) s) (length d) l m s (ap (λ t. (t && (roll_of d).sound && differ (roll_of d).numbers) && slot_sound (seen_of d s).slot) e) ∙
+        sym (unsound_plan (look_at d s) (length d) l m s (ap (λ t. t && every slot_sound d && differ (numbers_of d)) e))
+
 -- ---- what the plan does
 
 module _ (l : Ledger) (m : List ℕ) (d : List Slot) (s : List ℕ) where
@@ -89,6 +119,35 @@ module _ (l : Ledger) (m : List ℕ) (d : List Slot) (s : List ℕ) where
   pub plan_desk : set d (planned l m d s).at (planned l m d s).slot ≡ desk_served l m d s
   unfolding desk_served
   plan_desk = refl
+
+-- what an outcome does is what the message does, where its plan is the message's: a refusal leaves ledger, map and desk as they were
+module _ (l : Ledger) (m : List ℕ) (d : List Slot) (s : List ℕ) where
+  pub refusal_served :
+      (r : Refusal) →
+      planned_in l (length d) (Err r) ≡ planned l m d s →
+      (served_in l (Err r) ≡ served_of l m d s) × (m ≡ map_served l m d s) × (d ≡ desk_served l m d s)
+  refusal_served r e = (
+    ap (λ (p : Plan). p.served) e ∙ plan_served l m d s,
+    sym (marked_with_zero m) ∙ ap (λ (p : Plan). marked_with m p.number) e ∙ plan_map l m d s,
+    sym (set_out d (length d) free_slot (le_refl (length d))) ∙ ap (λ (p : Plan). set d p.at p.slot) e ∙ plan_desk l m d s,
+  )
+
+  pub plan_carried_out :
+      (p : Accepted) →
+      planned_in l (length d) (Ok p) ≡ planned l m d s →
+      (served_in l (Ok p.ledger) ≡ served_of l m d s) × (marked_with m p.number ≡ map_served l m d s) × (set d p.at p.slot ≡ desk_served l m d s)
+  plan_carried_out p e = (
+    ap (λ (p : Plan). p.served) e ∙ plan_served l m d s,
+    ap (λ (p : Plan). marked_with m p.number) e ∙ plan_map l m d s,
+    ap (λ (p : Plan). set d p.at p.slot) e ∙ plan_desk l m d s,
+  )
+
+-- no two outcomes come to the same for a caller that holds the ledger
+pub same_served : (l : Ledger) (x y : Result Ledger Refusal) → served_in l x ≡ served_in l y → x ≡ y
+same_served l (Ok a) (Ok b) same = ap (λ (t : Served). Ok t.ledger) same
+same_served l (Ok a) (Err s) same = absurd (no_refusal_0 s (sym (ap (λ (t : Served). t.answer) same)))
+same_served l (Err r) (Ok b) same = absurd (no_refusal_0 r (ap (λ (t : Served). t.answer) same))
+same_served l (Err r) (Err s) same = ap (λ t. Err t) (same_refusal r s (ap (λ (t : Served). t.answer) same))
 
 -- ---- a desk that is not 32 slots
 

@@ -6,10 +6,22 @@ use Rattle.fields.specs.Fields.{head_in}
 use Rattle.verdict.specs.Verdict.{event_verdict}
 use Rattle.ledger.specs.declared.Ledger.{Ledger}
 use Rattle.ledger.specs.Ledger.{added}
+use Rattle.slot.specs.declared.Slot.{Slot}
 use Rattle.slot.specs.Slot.{free_slot, opened_by, stepped_by}
 use Rattle.desk_scan.specs.Desk.{number_in}
-use Rattle.desk_rules.specs.declared.Plan.{Plan}
 use Rattle.desk_rules.specs.Rules.{Look, step_in, on_message, rules}
+
+-- what the desk answers: the answer number, and the ledger handed back
+pub record Served : Type 0 where
+  pub answer : ℕ
+  pub ledger : Ledger
+
+-- what is to be done: the answer and the ledger handed back; the slot to put, and where (past the desk's end: nowhere); the number to mark, or 0
+pub record Plan : Type 0 where
+  pub served : Served
+  pub at : ℕ
+  pub slot : Slot
+  pub number : ℕ
 
 -- a refusal: the ledger as it was, no number to mark, and the place past the last of so many slots, where nothing is put
 abbrev pub refused_plan : Ledger → ℕ → ℕ → Plan

@@ -1,254 +1,186 @@
-// What a desk message does: from what was found of the desk, the ledger, the map and the message's bytes to a plan. All rules of the desk stand
-// here, on values; carrying a plan out is the desk's own part.
+// What a desk message does: from what was seen of the desk, the ledger, the map and the message's bytes to a plan or a refusal. All rules of the
+// desk stand here, on values; carrying a plan out is the desk's own part.
 #![tactic(auto)]
 
-ghost use Rattle.std.specs.Prelude.{◌≡◌, true, cond};
+ghost use Rattle.std.specs.Prelude.{◌≡◌, ℕ, List, true, IfOk};
+ghost use Rattle.base.specs.First.{first};
+ghost use Rattle.base.specs.Lists.{place};
+ghost use Rattle.refusals.specs.Refusals.{answer_in};
 ghost use Rattle.ledger.specs.Sound.{sound_ledger};
 ghost use Rattle.slot.specs.Sound.{slot_sound};
-ghost use Rattle.desk_rules.specs.Inside.{look_by, plan_at, plan_by};
-ghost use Rattle.desk_rules.specs.Plan.{refused_plan};
+ghost use Rattle.desk_scan.specs.Inside.{place_named};
+ghost use Rattle.desk_rules.specs.Inside.{plan_seen_at, plan_seen, planned_in, open_tests, named_tests, step_tests};
 
+use annex::Step;
 use desk_scan::Roll;
+use fields::{Head, Sheet};
 use ledger::Ledger;
+use refusals::Refusal;
 use slot::Slot;
 
-// What the desk answers: the answer number, and the ledger handed back.
-#[derive(Clone, Copy)]
-pub struct Served {
-    pub answer: u8,
-    pub ledger: Ledger,
-}
-
-// What is to be done: the answer and the ledger handed back; the slot to put, and where (past the desk's end: nowhere); the number to mark, or 0.
+// What an accepted message does: the ledger afterwards; the slot to put, and where; the number to mark, or 0.
 #[derive(Clone, Copy)]
 pub struct Plan {
-    pub served: Served,
+    pub ledger: Ledger,
     pub at: usize,
     pub slot: Slot,
     pub number: u16,
 }
 
-// The plan of a refusal: nothing is put, nothing is marked, the ledger is handed back.
-fn refuse(ledger: Ledger, slots: usize, answer: u8) -> Plan
-    ensures { result ≡ refused_plan ledger slots answer }
-{
-    Plan {
-        served: Served { answer, ledger },
-        at: slots,
-        slot: Slot::free(),
-        number: 0,
-    }
+// What a message sees of a desk: how many slots there are, their roll, and the slot that holds its number (zeros only where none does).
+#[derive(Clone, Copy)]
+pub struct Seen {
+    pub slots: usize,
+    pub roll: Roll,
+    pub slot: Slot,
 }
 
-// The first of the tests that an open meets.
-fn first_of_open(c5: bool, c7: bool, c10: bool, c14: bool, c16: bool) -> u8
-    ensures { result ≡ cond c5 5 (cond c7 7 (cond c10 10 (cond c14 14 (cond c16 16 0)))) }
-{
-    if c5 {
-        return 5;
+impl Seen {
+    // Whether the rules let an open in: the slot that it takes, or the smallest number that applies. Each test is made only where none before it
+    // applies.
+    fn admit_open(&self, head: Head, sheet: Sheet, map: &[u8]) -> Result<usize, Refusal>
+        ensures answer { answer_in result ≡ first (open_tests head sheet map.now self.now.roll.numbers) }
+        ensures found { IfOk result (λ at. at ≡ place 0 self.now.roll.numbers) }
+    {
+        if !sheet.there {
+            return Err(Refusal::Sheet);
+        }
+        if !head.listed() {
+            return Err(Refusal::Code);
+        }
+        if annex::minutes_in(sheet.year) <= head.t0 {
+            return Err(Refusal::Time);
+        }
+        if used_numbers::is_marked(map, head.number) | self.roll.place_of(head.number).is_some() {
+            return Err(Refusal::Used);
+        }
+        self.roll.place_of(0).ok_or(Refusal::DeskFull)
     }
-    if c7 {
-        return 7;
-    }
-    if c10 {
-        return 10;
-    }
-    if c14 {
-        return 14;
-    }
-    if c16 {
-        return 16;
-    }
-    0
-}
 
-// The first of the tests that a step and a close share, and the rest.
-fn first_of_named(c5: bool, c7: bool, c8: bool, c9: bool, rest: u8) -> u8
-    ensures { result ≡ cond c5 5 (cond c7 7 (cond c8 8 (cond c9 9 rest))) }
-{
-    if c5 {
-        return 5;
+    // A message of kind 16.
+    fn open(&self, ledger: Ledger, map: &[u8], bytes: &[u8]) -> Result<Plan, Refusal>
+        ensures { planned_in ledger self.now.slots result ≡ plan_seen_at 16 self.now ledger map.now bytes.now }
+    {
+        if bytes.len() != 13 {
+            return Err(Refusal::Length);
+        }
+        let head = fields::head_of(bytes);
+        let gap = self.admit_open(head, ledger.sheet, map)?;
+        Ok(Plan {
+            ledger,
+            at: gap,
+            slot: Slot::opened(head),
+            number: head.number,
+        })
     }
-    if c7 {
-        return 7;
-    }
-    if c8 {
-        return 8;
-    }
-    if c9 {
-        return 9;
-    }
-    rest
-}
 
-// The first of the tests that a step meets once its ordinal is right.
-fn first_of_step(c10: bool, c11: bool, c12: bool) -> u8
-    ensures { result ≡ cond c10 10 (cond c11 11 (cond c12 12 0)) }
-{
-    if c10 {
-        return 10;
+    // Whether the rules that a step and a close share let one in: the slot that holds its number, or the smallest number that applies.
+    fn admit_named(&self, sheet: Sheet, bytes: &[u8], miscounted: bool) -> Result<usize, Refusal>
+        ensures answer { answer_in result ≡ first (named_tests sheet bytes.now (place_named self.now.roll bytes.now) miscounted) }
+        ensures found { IfOk result (λ at. at ≡ place_named self.now.roll bytes.now) }
+    {
+        if !sheet.there {
+            return Err(Refusal::Sheet);
+        }
+        if wire::u16_at(bytes, 4) == 0 {
+            return Err(Refusal::Code);
+        }
+        let at = self.roll.named(bytes).ok_or(Refusal::NotOpen)?;
+        if miscounted {
+            return Err(Refusal::Ordinal);
+        }
+        Ok(at)
     }
-    if c11 {
-        return 11;
-    }
-    if c12 {
-        return 12;
-    }
-    0
-}
 
-// A message of kind 16.
-fn plan_open(slots: usize, roll: Roll, slot: Slot, ledger: Ledger, map: &[u8], bytes: &[u8]) -> Plan
-    ensures { result ≡ plan_at 16 (look_by slots roll slot bytes.now) slots ledger map.now bytes.now }
-{
-    if bytes.len() != 13 {
-        return refuse(ledger, slots, 4);
+    // Whether the other rules of a step let it in.
+    fn admit_step(&self, step: Step, sheet: Sheet) -> Result<(), Refusal>
+        ensures { answer_in result ≡ first (step_tests step sheet self.now.slot) }
+    {
+        if limits::is_late(step.time, self.slot.last) {
+            return Err(Refusal::Time);
+        }
+        if limits::exceeds(step.counts, sheet.totals) {
+            return Err(Refusal::Count);
+        }
+        if limits::is_above(step.counts, codes::level_of(self.slot.head.voltage)) {
+            return Err(Refusal::Level);
+        }
+        Ok(())
     }
-    let head = fields::head_of(bytes);
-    let sheet = ledger.sheet;
-    let gap = roll.place_of(0);
-    let answer = first_of_open(
-        !sheet.there,
-        !head.listed(),
-        annex::minutes_in(sheet.year) <= head.t0,
-        used_numbers::is_marked(map, head.number) | (roll.place_of(head.number) < desk_scan::SLOTS),
-        desk_scan::SLOTS <= gap,
-    );
-    if answer != 0 {
-        return refuse(ledger, slots, answer);
-    }
-    Plan {
-        served: Served { answer: 0, ledger },
-        at: gap,
-        slot: Slot::opened(head),
-        number: head.number,
-    }
-}
 
-// A message of kind 17.
-fn plan_step(slots: usize, roll: Roll, slot: Slot, ledger: Ledger, map: &[u8], bytes: &[u8]) -> Plan
-    requires { slot_sound slot ≡ true }
-    ensures { result ≡ plan_at 17 (look_by slots roll slot bytes.now) slots ledger map.now bytes.now }
-{
-    if bytes.len() != 23 {
-        return refuse(ledger, slots, 4);
+    // A message of kind 17.
+    fn step(&self, ledger: Ledger, bytes: &[u8]) -> Result<Plan, Refusal>
+        requires { slot_sound self.now.slot ≡ true }
+        ensures { (m : List ℕ) → planned_in ledger self.now.slots result ≡ plan_seen_at 17 self.now ledger m bytes.now }
+    {
+        if bytes.len() != 23 {
+            return Err(Refusal::Length);
+        }
+        let ordinal = wire::byte_at(bytes, 6);
+        let step = fields::step_at(bytes, 7);
+        let at = self.admit_named(
+            ledger.sheet,
+            bytes,
+            (ordinal as u16 != self.slot.steps as u16 + 1) | (64 < ordinal),
+        )?;
+        self.admit_step(step, ledger.sheet)?;
+        Ok(Plan {
+            ledger,
+            at,
+            slot: self.slot.stepped(step),
+            number: 0,
+        })
     }
-    let number = wire::u16_at(bytes, 4);
-    let ordinal = wire::byte_at(bytes, 6);
-    let step = fields::step_at(bytes, 7);
-    let counts = step.counts;
-    let sheet = ledger.sheet;
-    let totals = sheet.totals;
-    let head = slot.head;
-    let at = roll.named(bytes);
-    let rest = first_of_step(
-        limits::is_late(step.time, slot.last),
-        limits::exceeds(counts, totals),
-        limits::is_above(counts, codes::level_of(head.voltage)),
-    );
-    let answer = first_of_named(
-        !sheet.there,
-        number == 0,
-        desk_scan::SLOTS <= at,
-        (ordinal as u16 != slot.steps as u16 + 1) | (64 < ordinal),
-        rest,
-    );
-    if answer != 0 {
-        return refuse(ledger, slots, answer);
-    }
-    Plan {
-        served: Served { answer: 0, ledger },
-        at,
-        slot: slot.stepped(step),
-        number: 0,
-    }
-}
 
-// A message of kind 18.
-fn plan_close(
-    slots: usize,
-    roll: Roll,
-    slot: Slot,
-    ledger: Ledger,
-    map: &[u8],
-    bytes: &[u8],
-) -> Plan
-    requires { (slot_sound slot ≡ true) × (sound_ledger ledger ≡ true) }
-    ensures { result ≡ plan_at 18 (look_by slots roll slot bytes.now) slots ledger map.now bytes.now }
-{
-    if bytes.len() != 7 {
-        return refuse(ledger, slots, 4);
+    // A message of kind 18.
+    fn close(&self, ledger: Ledger, bytes: &[u8]) -> Result<Plan, Refusal>
+        requires slot { slot_sound self.now.slot ≡ true }
+        requires ledger { sound_ledger ledger ≡ true }
+        ensures { (m : List ℕ) → planned_in ledger self.now.slots result ≡ plan_seen_at 18 self.now ledger m bytes.now }
+    {
+        if bytes.len() != 7 {
+            return Err(Refusal::Length);
+        }
+        let count = wire::byte_at(bytes, 6);
+        let at = self.admit_named(
+            ledger.sheet,
+            bytes,
+            (count == 0) | (count != self.slot.steps),
+        )?;
+        let full = codes::MOST_EVENTS <= ledger.events;
+        if full {
+            return Err(Refusal::Full);
+        }
+        let event = verdict::accept(
+            ledger.sheet,
+            self.slot.head,
+            self.slot.last,
+            self.slot.figures,
+        );
+        Ok(Plan {
+            ledger: ledger.add(event),
+            at,
+            slot: Slot::free(),
+            number: 0,
+        })
     }
-    let number = wire::u16_at(bytes, 4);
-    let count = wire::byte_at(bytes, 6);
-    let sheet = ledger.sheet;
-    let head = slot.head;
-    let figures = slot.figures;
-    let at = roll.named(bytes);
-    let rest = if codes::MOST_EVENTS <= ledger.events {
-        15
-    } else {
-        0
-    };
-    let answer = first_of_named(
-        !sheet.there,
-        number == 0,
-        desk_scan::SLOTS <= at,
-        (count == 0) | (count != slot.steps),
-        rest,
-    );
-    if answer != 0 {
-        return refuse(ledger, slots, answer);
-    }
-    let taken = ledger.add(verdict::accept(sheet, head, slot.last, figures));
-    let next = taken.ledger;
-    let freed = Slot::free();
-    Plan {
-        served: Served {
-            answer: taken.answer,
-            ledger: next,
-        },
-        at,
-        slot: freed,
-        number: 0,
-    }
-}
 
-// The plan of a message: for a desk of so many slots with this roll, the slot that the message names (zeros only where its number is not open), the
-// ledger and the map.
-pub fn decide(
-    slots: usize,
-    roll: Roll,
-    slot: Slot,
-    ledger: Ledger,
-    map: &[u8],
-    bytes: &[u8],
-) -> Plan
-    ensures { result ≡ plan_by slots roll slot ledger map.now bytes.now }
-{
-    let desk_sound = roll.holds(slots) & slot.sound();
-    if (map.len() != ledger::MAP) | !ledger.sound() | !desk_sound {
-        return refuse(ledger, slots, 1);
+    // The plan of a message, under a ledger and a map.
+    pub fn decide(&self, ledger: Ledger, map: &[u8], bytes: &[u8]) -> Result<Plan, Refusal>
+        ensures { planned_in ledger self.now.slots result ≡ plan_seen self.now ledger map.now bytes.now }
+    {
+        let desk_sound = self.roll.holds(self.slots) & self.slot.sound();
+        if (map.len() != ledger::MAP) | !ledger.sound() | !desk_sound {
+            return Err(Refusal::Unsound);
+        }
+        if !wire::is_framed(bytes) {
+            return Err(Refusal::Frame);
+        }
+        match wire::kind_of(bytes) {
+            16 => self.open(ledger, map, bytes),
+            17 => self.step(ledger, bytes),
+            18 => self.close(ledger, bytes),
+            _ => Err(Refusal::Kind),
+        }
     }
-    if !wire::is_framed(bytes) {
-        return refuse(ledger, slots, 2);
-    }
-    let kind = wire::kind_of(bytes);
-    if kind == 16 {
-        return plan_open(slots, roll, slot, ledger, map, bytes);
-    }
-    if kind == 17 {
-        return plan_step(slots, roll, slot, ledger, map, bytes);
-    }
-    if kind == 18 {
-        return plan_close(slots, roll, slot, ledger, map, bytes);
-    }
-    refuse(ledger, slots, 3)
-}
-
-// The answer and the ledger of a plan.
-pub fn served_by(plan: Plan) -> Served
-    ensures { result ≡ plan.served }
-{
-    plan.served
 }

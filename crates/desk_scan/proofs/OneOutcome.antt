@@ -1,10 +1,10 @@
 -- No second outcome meets what a public function of this crate promises. Assumes nothing.
 use mathlib.Core.Path.{refl}
 use Rattle.base.proofs.OneOutcome.{OneOutcome, alike}
-use Rattle.desk_scan.proofs.enter.Kinds as enter-kinds
-use Rattle.desk_scan.proofs.enter.Reads as enter
-use Rattle.desk_scan.proofs.Roll.by.Kinds as by-kinds
-use Rattle.desk_scan.proofs.Roll.by.Reads as by
+use Rattle.desk_scan.proofs.Roll.none.Kinds as none-kinds
+use Rattle.desk_scan.proofs.Roll.none.Reads as none
+use Rattle.desk_scan.proofs.Roll.enter.Kinds as enter-kinds
+use Rattle.desk_scan.proofs.Roll.enter.Reads as enter
 use Rattle.desk_scan.proofs.Roll.holds.Kinds as holds-kinds
 use Rattle.desk_scan.proofs.Roll.holds.Reads as holds
 use Rattle.desk_scan.proofs.Roll.place_of.Kinds as place-of-kinds
@@ -12,11 +12,11 @@ use Rattle.desk_scan.proofs.Roll.place_of.Reads as place_of
 use Rattle.desk_scan.proofs.Roll.named.Kinds as named-kinds
 use Rattle.desk_scan.proofs.Roll.named.Reads as named
 
-pub enter_one : OneOutcome enter-kinds.ps enter-kinds.r enter.Post
-enter_one κs a x y v w p q = (alike p.0 q.0, λ i. (alike p.1 q.1 i, (tt, (tt, (tt, tt)))))
+pub none_one : OneOutcome none-kinds.ps none-kinds.r none.Post
+none_one κs a x y v w p q = (alike p q, refl)
 
-pub by_one : OneOutcome by-kinds.ps by-kinds.r by.Post
-by_one κs a x y v w p q = (alike p q, refl)
+pub enter_one : OneOutcome enter-kinds.ps enter-kinds.r enter.Post
+enter_one κs a x y v w p q = (refl, λ i. (alike p q i, (tt, (tt, tt))))
 
 pub holds_one : OneOutcome holds-kinds.ps holds-kinds.r holds.Post
 holds_one κs a x y v w p q = (alike p q, refl)

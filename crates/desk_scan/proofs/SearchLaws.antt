@@ -1,6 +1,6 @@
 -- The search for a number: where it ends, what it passes, and what becomes of it where one slot is replaced; and that open numbers differ, as a
 -- fact of any two slots. Each is an induction over the list. Assumes nothing.
-use Prim.Native.Nat.{ℕ, zero, suc, ◌≤◌, ◌<◌, suc-le-suc}
+use Prim.Native.Nat.{ℕ, zero, suc, ◌+◌, ◌≤◌, ◌<◌, suc-le-suc}
 use mathlib.Core.Path.{◌≡◌, refl, sym, ◌∙◌, ap, subst}
 use mathlib.Core.Logic.{◌≢◌}
 use mathlib.Core.List.{List, [], ◌∷◌, map}
@@ -12,6 +12,8 @@ use native.Mathlib.Omega.{arith}
 use native.Mathlib.Decide.{ℕ_discrete}
 use native.Mathlib.Nat.{not-suc-le-zero, le_of_suc-le-suc, suc_inj, suc-ne-zero, zero-lt-suc}
 use borrow.Author.Tests.{eqb-true, eqb-false, eq-eqb, ne_eqb, not-true}
+use Rattle.std.specs.List.{position_or_len}
+use Rattle.std.proofs.lemmas.List.Recursion.{is_position_or_len}
 use Rattle.base.specs.Lists.{every, listed, place}
 use Rattle.base.proofs.ListLaws.{every_set}
 use Rattle.base.proofs.PlaceLaws.{number_at_most, number_found_lem}
@@ -39,6 +41,13 @@ map_set f (x ∷ l) zero a = refl
 map_set f (x ∷ l) (suc i) a = ap (λ k. f x ∷ k) (map_set f l i a)
 
 -- ---- the search in a list of numbers
+
+-- it is the library's search by a test
+pub place_searched : (v : ℕ) (vs : List ℕ) → place v vs ≡ position_or_len (eqb v) vs
+place_searched v = is_position_or_len (place v) (eqb v) refl (λ w vs. ap (cond (eqb v w) 0) (next (place v vs)))
+  where
+    next : (n : ℕ) → suc n ≡ 1 + n
+    next n = omega arith
 
 -- the search passes only what is not the number
 pub number_before : (v : ℕ) (vs : List ℕ) (i : ℕ) → i < place v vs → get_or vs i 0 ≢ v

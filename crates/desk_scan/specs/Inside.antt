@@ -1,5 +1,5 @@
 -- Inner vocabulary: what one pass over a desk gathers, slot by slot.
-use Rattle.std.specs.Prelude.{ℕ, ◌+◌, List, [], ◌∷◌, Bool, true, ◌&&◌, set, replicate, eqb}
+use Rattle.std.specs.Prelude.{ℕ, ◌+◌, List, [], ◌∷◌, Bool, true, ◌&&◌, cond, Option, Some, None, set, replicate, eqb, ltb}
 use Rattle.base.specs.Lists.{place}
 use Rattle.slot.specs.declared.Slot.{Slot}
 use Rattle.slot.specs.Sound.{slot_sound}
@@ -30,6 +30,10 @@ roll_of d = rolled no_roll 0 d
 -- the roll is that of a sound desk of so many slots
 abbrev pub roll_sound : ℕ → Roll → Bool
 roll_sound slots r = eqb slots slot_count && r.sound && differ r.numbers
+
+-- the search in a table of 32: the place of the number, if it stands there
+abbrev pub found : ℕ → List ℕ → Option ℕ
+found v t = cond (ltb (place v t) slot_count) (Some (place v t)) None
 
 -- the place of the outage that a message names
 abbrev pub place_named : Roll → List ℕ → ℕ

@@ -1,10 +1,10 @@
 // The roll of a desk: what one pass over its slots gathers, and the searches in it.
 #![tactic(auto)]
 
-ghost use Rattle.std.specs.Prelude.{◌≡◌, ◌+◌, drop, set};
-ghost use Rattle.base.specs.Lists.{listed, place};
-ghost use Rattle.desk_scan.specs.Desk.{differ};
-ghost use Rattle.desk_scan.specs.Inside.{roll_by, rolled_slot, roll_sound, place_named};
+ghost use Rattle.std.specs.Prelude.{◌≡◌, drop};
+ghost use Rattle.base.specs.Lists.{listed};
+ghost use Rattle.desk_scan.specs.Desk.{differ, number_in};
+ghost use Rattle.desk_scan.specs.Inside.{no_roll, rolled_slot, roll_sound, found};
 
 use slot::Slot;
 
@@ -15,101 +15,71 @@ pub const SLOTS: usize = 32;
 #[derive(Clone, Copy)]
 pub struct Roll {
     pub sound: bool,
-    pub numbers: [u16; 32],
+    pub numbers: [u16; SLOTS],
 }
 
 // Whether a number stands in a table of 32, from an index on. It looks at every entry, so that the loop's length is known.
-fn listed_from(table: [u16; 32], start: u16, number: u16) -> bool
-    ensures { result ≡ listed number (drop start table) }
+fn listed_from(table: &[u16; SLOTS], start: u16, number: u16) -> bool
+    ensures { result ≡ listed number (drop start table.now) }
 {
     let mut hit = false;
-    let mut i: u16 = 0;
-    while i < 32 {
+    for i in 0..SLOTS as u16 {
         hit = hit | ((start <= i) & (number == table[i as usize]));
-        i += 1;
     }
     hit
 }
 
 // Whether the open numbers of a table differ.
-fn numbers_differ(table: [u16; 32]) -> bool
-    ensures { result ≡ differ table }
+fn numbers_differ(table: &[u16; SLOTS]) -> bool
+    ensures { result ≡ differ table.now }
 {
     let mut ok = true;
-    let mut i: u16 = 0;
-    while i < 32 {
+    for i in 0..SLOTS as u16 {
         let number = table[i as usize];
         ok = ok & ((number == 0) | !listed_from(table, i + 1, number));
-        i += 1;
     }
     ok
 }
 
-// The search: how many entries of a table it passes before the first that has the number; 32 where none has it.
-#[tactic(auto, using(base::proofs::PlaceLaws::found, base::proofs::PlaceLaws::passes_on, base::proofs::PlaceLaws::begins, base::proofs::PlaceLaws::ended))]
-fn place_in(table: [u16; 32], number: u16) -> usize
-    ensures { result ≡ place number table }
-{
-    let mut passed: usize = 0;
-    while passed < 32 {
-        if number == table[passed] {
-            return passed;
-        }
-        passed += 1;
-    }
-    32
-}
-
-// Writes a number at an index, as far as the numbers reach.
-fn note(numbers: &mut [u16], at: usize, number: u16)
-    ensures { numbers.new ≡ set numbers.old at number }
-{
-    if numbers.len() <= at {
-        return;
-    }
-    numbers[at] = number;
-}
-
-// Enters the slot at an index: its number is written among the numbers, and the answer is whether all slots so far are sound. Of a free slot nothing
-// more is asked.
-pub fn enter(numbers: &mut [u16], sound: bool, at: usize, slot: Slot) -> bool
-    ensures { (result ≡ (rolled_slot (roll_by sound numbers.old) at slot).sound) × (numbers.new ≡ (rolled_slot (roll_by sound numbers.old) at slot).numbers) }
-{
-    let head = slot.head;
-    note(numbers, at, head.number);
-    if slot.is_free() {
-        return sound;
-    }
-    sound & slot.open_sound()
-}
-
 impl Roll {
-    // The roll that has been entered.
-    pub fn by(sound: bool, numbers: [u16; 32]) -> Roll
-        ensures { result ≡ roll_by sound numbers }
+    // Before the first slot.
+    pub fn none() -> Roll
+        ensures { result ≡ no_roll }
     {
-        Roll { sound, numbers }
+        Roll {
+            sound: true,
+            numbers: [0; SLOTS],
+        }
+    }
+
+    // Enters the slot at an index: its number, as far as the numbers reach, and whether all slots so far are sound.
+    #[tactic(auto, unfolding(crate::specs::Inside::rolled_slot))]
+    pub fn enter(&mut self, at: usize, slot: Slot)
+        ensures { self.new ≡ rolled_slot self.old at slot }
+    {
+        if at < SLOTS {
+            self.numbers[at] = slot.head.number;
+        }
+        self.sound = self.sound & slot.sound();
     }
 
     // Whether the roll is that of a sound desk of so many slots.
-    pub fn holds(self, slots: usize) -> bool
-        ensures { result ≡ roll_sound slots self }
+    pub fn holds(&self, slots: usize) -> bool
+        ensures { result ≡ roll_sound slots self.now }
     {
-        let numbers = self.numbers;
-        (slots == SLOTS) & self.sound & numbers_differ(numbers)
+        (slots == SLOTS) & self.sound & numbers_differ(&self.numbers)
     }
 
-    // The search for a number: the slots that it passes, 32 where none holds the number. The first free slot is where 0 is found.
-    pub fn place_of(self, number: u16) -> usize
-        ensures { result ≡ place number self.numbers }
+    // The search for a number: the lowest slot that holds it. The first free slot is where 0 is found.
+    pub fn place_of(&self, number: u16) -> Option<usize>
+        ensures { result ≡ found number self.now.numbers }
     {
-        let numbers = self.numbers;
-        place_in(numbers, number)
+        self.numbers.iter().position(|held| number == *held)
     }
 
     // The search for the outage that a message names.
-    pub fn named(self, bytes: &[u8]) -> usize
-        ensures { result ≡ place_named self bytes.now }
+    pub fn named(&self, bytes: &[u8]) -> Option<usize>
+        ensures { result ≡ found (number_in bytes.now) self.now.numbers }
     {
         self.place_of(wire::u16_at(bytes, 4))
     }

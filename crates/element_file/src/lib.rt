@@ -3,80 +3,59 @@
 #![tactic(auto)]
 
 ghost use Rattle.std.specs.Prelude.{◌≡◌};
-ghost use Rattle.element_file.specs.Yearly.{pass_of, file_of};
+ghost use Rattle.element_file.specs.Yearly.{passed_in, pass_of, reading_in, file_of};
 
 use element_table::Table;
+use refusals::Refusal;
+use wire::Place;
 
-// What taking the records of some bytes comes to: the table after them, the refused ones, and where and how the reading stopped (1 at the end, 2 at
-// a broken length).
+// What taking the records of some bytes comes to: the table after them, the refused ones, where the reading stopped, and whether a broken length stopped it.
 #[derive(Clone, Copy)]
 pub struct Pass {
     pub table: Table,
     pub refused: u64,
     pub stop: usize,
-    pub which: u8,
+    pub broken: bool,
 }
 
-// What reading a file comes to: 1 where nothing was read (an unsound table), else 0; the table at the end; the refused records; and whether a broken
-// length ended the reading.
+// What reading a file comes to: the table at the end, the refused records, and whether a broken length ended the reading.
 #[derive(Clone, Copy)]
 pub struct Reading {
-    pub answer: u8,
     pub table: Table,
     pub refused: u64,
     pub broken: bool,
 }
 
 // The records of some bytes, one after the other.
-pub fn take_records(table: Table, bytes: &[u8]) -> Pass
-    ensures { result ≡ pass_of table bytes.now }
+pub fn take_records(mut table: Table, bytes: &[u8]) -> Pass
+    ensures { passed_in result ≡ pass_of table bytes.now }
 {
-    let mut t = table;
     let mut refused: u64 = 0;
-    let mut stand = wire::stand_at(bytes, 0);
-    while stand.which == 0 {
-        let end = stand.end;
-        let filed = t.take(wire::part(bytes, stand.start, end));
-        refused += records::one_if_refused(filed.answer);
-        t = filed.table;
-        stand = wire::stand_at(bytes, end);
+    let mut at = 0;
+    while let Place::Record { start, end } = wire::place_at(bytes, at) {
+        match table.take(wire::part(bytes, start, end)) {
+            Ok(next) => table = next,
+            Err(_) => refused += 1,
+        }
+        at = end;
     }
     Pass {
-        table: t,
+        table,
         refused,
-        stop: stand.start,
-        which: stand.which,
+        stop: at,
+        broken: at < bytes.len(),
     }
 }
 
-// A whole file.
-pub fn take_file(table: Table, file: &[u8]) -> Reading
-    ensures { result ≡ file_of table file.now }
+// A whole file. A table that is not sound reads none.
+pub fn take_file(table: Table, file: &[u8]) -> Result<Reading, Refusal>
+    ensures { reading_in table result ≡ file_of table file.now }
 {
-    let begun = table.begin_file();
-    let t = begun.table;
-    if begun.answer != 0 {
-        return Reading {
-            answer: 1,
-            table: t,
-            refused: 0,
-            broken: false,
-        };
-    }
-    let run = take_records(t, file);
-    let next = run.table;
-    if run.which == 2 {
-        return Reading {
-            answer: 0,
-            table: next,
-            refused: run.refused + 1,
-            broken: true,
-        };
-    }
-    Reading {
-        answer: 0,
-        table: next,
-        refused: run.refused,
-        broken: false,
-    }
+    let begun = table.begin_file()?;
+    let run = take_records(begun, file);
+    Ok(Reading {
+        table: run.table,
+        refused: run.refused + u64::from(run.broken),
+        broken: run.broken,
+    })
 }

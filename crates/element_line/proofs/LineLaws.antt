@@ -1,5 +1,6 @@
 -- The three ways of a line; what a rate is per; and a line fits its text whatever the table, where the name has at most 100 bytes. Assumes nothing.
 use Prim.Native.Nat.{ℕ, ◌≤◌, ◌/◌}
+use Rattle.std.specs.Prelude.{Result, Ok, Err}
 use mathlib.Core.Path.{◌≡◌, refl, ap, ◌∙◌}
 use mathlib.Core.Bool.{true, false, cond}
 use mathlib.Core.List.{List, [], ◌∷◌, ◌++◌}
@@ -7,13 +8,12 @@ use lib.ListN.{length, length-append}
 use lib.Dec.{eqb}
 use native.Mathlib.Omega.{arith}
 use Rattle.base.proofs.TestLaws.{Tested, holds, fails, test}
-use Rattle.decimal.specs.declared.Shown.{Shown}
-use Rattle.decimal.specs.declared.Shown.TheVariants as shown
+use Rattle.refusals.specs.declared.Refusal.{Refusal}
+use Rattle.ratio.specs.declared.Fraction.{Fraction}
+use Rattle.decimal.specs.declared.Decimal.{Decimal}
 use Rattle.element_codes.specs.Elements.{element_listed}
 use Rattle.element_table.specs.declared.Table.{Table}
 use Rattle.element_table.specs.Table.{sound_table}
-use Rattle.element_rates.specs.declared.Figure.{Figure}
-use Rattle.element_rates.specs.declared.Figure.TheVariants.{Is, Refused}
 use Rattle.element_rates.specs.Rates.{row_at, weight_of, rate_of, mean_of, shown_rate, shown_mean}
 use Rattle.text.specs.declared.Text.{Text}
 use Rattle.text.specs.Text.{text_of, pushed, pushed_all, number_text, two_text}
@@ -51,16 +51,16 @@ per_as_weighed stock told = go (test (eqb stock 2))
     go (holds e) = rw (told, e) refl
     go (fails e) = rw (told, e) refl
 
-fraction_length : (f : Figure) → length (fraction_text f) ≤ 41
-fraction_length (Is f) =
+fraction_length : (f : Result Fraction Refusal) → length (fraction_text f) ≤ 41
+fraction_length (Ok f) =
     let h : length (number_text f.bottom) ≤ 20 = number_length f.bottom in
     both_short (number_text f.top) (47 ∷ number_text f.bottom) {n = 21} (number_length f.top) (omega arith)
-fraction_length (Refused n) = omega arith
+fraction_length (Err r) = omega arith
 
-six_length : (s : Shown) → length (six_text s) ≤ 27
-six_length (shown.Is d) =
+six_length : (s : Result Decimal Refusal) → length (six_text s) ≤ 27
+six_length (Ok d) =
     both_short (number_text d.whole) (46 ∷ two_text (d.digits / 10000) ++ two_text (d.digits / 100) ++ two_text d.digits) {n = 7} (number_length d.whole) (omega arith)
-six_length (shown.Refused n) = omega arith
+six_length (Err r) = omega arith
 
 per_length : (stock : ℕ) → length (per_text stock) ≤ 6
 per_length stock = go (test (eqb stock 0)) (test (eqb stock 2))

@@ -1,30 +1,40 @@
 -- The element sheet (02, K1): one line for each of the 62 codes: code, its name in the document's words, outages, rate and mean as exact fractions n/d in
 -- lowest terms and as decimals with six digits, - where 17 applies. The parts of a line are parted by tabs, as names have blanks in them. Before the rate
 -- stands what it is per, and over the lines what each column is.
-use Rattle.std.specs.Prelude.{ℕ, ◌/◌, List, [], ◌∷◌, ◌++◌, not, cond, eqb}
-use Rattle.decimal.specs.declared.Shown.{Shown}
-use Rattle.decimal.specs.declared.Shown.TheVariants as shown
+use Rattle.std.specs.Prelude.{ℕ, ◌/◌, List, [], ◌∷◌, ◌++◌, not, cond, eqb, Result, Ok, Err}
+use Rattle.refusals.specs.declared.Refusal.{Refusal}
+use Rattle.refusals.specs.Refusals.{number_of}
+use Rattle.ratio.specs.declared.Fraction.{Fraction}
+use Rattle.decimal.specs.declared.Decimal.{Decimal}
 use Rattle.element_codes.specs.Elements.{element_listed}
 use Rattle.element_table.specs.declared.Table.{Table}
 use Rattle.element_table.specs.Table.{sound_table}
-use Rattle.element_rates.specs.declared.Figure.{Figure}
-use Rattle.element_rates.specs.declared.Figure.TheVariants.{Is, Refused}
 use Rattle.element_rates.specs.Rates.{row_at, rate_of, mean_of, shown_rate, shown_mean}
+use Rattle.text.specs.declared.Text.{Text}
 use Rattle.text.specs.Text.{text_of, pushed_all, number_text, two_text}
-use Rattle.element_line.specs.declared.Line.{Line}
+
+-- the answer number, and the text: none where the answer is not 0
+pub record Line : Type 0 where
+  pub answer : ℕ
+  pub text : Text
+
+-- what a text or a refusal is in these words
+abbrev pub told : Result Text Refusal → Line
+told (Ok t) = record { answer = 0; text = t }
+told (Err r) = record { answer = number_of r; text = text_of [] }
 
 -- `n/d`, or "-"
-abbrev pub fraction_text : Figure → List ℕ
-fraction_text (Is f) = number_text f.top ++ (47 ∷ number_text f.bottom)
-fraction_text (Refused n) = 45 ∷ []
+abbrev pub fraction_text : Result Fraction Refusal → List ℕ
+fraction_text (Ok f) = number_text f.top ++ (47 ∷ number_text f.bottom)
+fraction_text (Err r) = 45 ∷ []
 
 -- the whole part, a point and six digits, or "-"
-abbrev pub six_text : Shown → List ℕ
-six_text (shown.Is d) = number_text d.whole ++ (46 ∷ two_text (d.digits / 10000) ++ two_text (d.digits / 100) ++ two_text d.digits)
-six_text (shown.Refused n) = 45 ∷ []
+abbrev pub six_text : Result Decimal Refusal → List ℕ
+six_text (Ok d) = number_text d.whole ++ (46 ∷ two_text (d.digits / 10000) ++ two_text (d.digits / 100) ++ two_text d.digits)
+six_text (Err r) = 45 ∷ []
 
 -- a tab before each
-abbrev pub figure_text : Figure → Shown → List ℕ
+abbrev pub figure_text : Result Fraction Refusal → Result Decimal Refusal → List ℕ
 figure_text f s = 9 ∷ fraction_text f ++ (9 ∷ six_text s)
 
 -- "piece"

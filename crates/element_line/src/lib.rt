@@ -4,50 +4,44 @@
 
 ghost use Rattle.std.specs.Prelude.{◌≡◌};
 ghost use Rattle.text.specs.Text.{text_of, pushed_all};
-ghost use Rattle.element_line.specs.Listing.{fraction_text, six_text, figure_text, per_text, line_text, line_of, heading_text};
+ghost use Rattle.element_line.specs.Listing.{fraction_text, six_text, figure_text, per_text, told, line_of, heading_text};
 
-use decimal::Shown;
-use element_rates::Figure;
+use decimal::Decimal;
 use element_table::Table;
+use ratio::Fraction;
+use refusals::Refusal;
 use text::Text;
 
-// The answer number, and the text: none where the answer is not 0.
-#[derive(Clone, Copy)]
-pub struct Line {
-    pub answer: u8,
-    pub text: Text,
-}
-
 // A fraction as n/d, or - where it is refused.
-fn with_fraction(t: Text, f: Figure) -> Text
+fn with_fraction(t: Text, f: Result<Fraction, Refusal>) -> Text
     ensures { result ≡ pushed_all t (fraction_text f) }
 {
     match f {
-        Figure::Is(x) => t.with_number(x.top).with_byte(47).with_number(x.bottom),
-        Figure::Refused(_) => t.with_byte(45),
+        Ok(x) => t.with_number(x.top).with_byte(b'/').with_number(x.bottom),
+        Err(_refusal) => t.with_byte(b'-'),
     }
 }
 
 // A figure with six digits after the point, or - where it is refused.
-fn with_six(t: Text, s: Shown) -> Text
+fn with_six(t: Text, s: Result<Decimal, Refusal>) -> Text
     ensures { result ≡ pushed_all t (six_text s) }
 {
     match s {
-        Shown::Is(d) => t
+        Ok(d) => t
             .with_number(d.whole)
-            .with_byte(46)
+            .with_byte(b'.')
             .with_two(d.digits / 10000)
             .with_two(d.digits / 100)
             .with_two(d.digits),
-        Shown::Refused(_) => t.with_byte(45),
+        Err(_) => t.with_byte(b'-'),
     }
 }
 
 // A figure: a tab, the fraction, a tab, and the digits.
-fn with_figure(t: Text, f: Figure, s: Shown) -> Text
+fn with_figure(t: Text, f: Result<Fraction, Refusal>, s: Result<Decimal, Refusal>) -> Text
     ensures { result ≡ pushed_all t (figure_text f s) }
 {
-    with_six(with_fraction(t.with_byte(9), f).with_byte(9), s)
+    with_six(with_fraction(t.with_byte(b'\t'), f).with_byte(b'\t'), s)
 }
 
 // What a rate is per, by the stock's mark: a piece, 100 km of a line, or - where no stock was told.
@@ -55,7 +49,7 @@ fn with_per(t: Text, stock: u8) -> Text
     ensures { result ≡ pushed_all t (per_text stock) }
 {
     if stock == 0 {
-        return t.with_byte(45);
+        return t.with_byte(b'-');
     }
     if stock == 2 {
         return t.with_words(b"100 km");
@@ -64,29 +58,22 @@ fn with_per(t: Text, stock: u8) -> Text
 }
 
 // The line of a code under a name: 1 for an unsound table, 7 for an unknown code.
-pub fn line_of(table: Table, code: u16, name: &[u8]) -> Line
-    ensures { result ≡ line_of table code name.now }
+pub fn line_of(table: Table, code: u16, name: &[u8]) -> Result<Text, Refusal>
+    ensures { told result ≡ line_of table code name.now }
 {
     if !table.sound() {
-        return Line {
-            answer: 1,
-            text: Text::empty(),
-        };
+        return Err(Refusal::Unsound);
     }
     if !element_codes::is_element(code) {
-        return Line {
-            answer: 7,
-            text: Text::empty(),
-        };
+        return Err(Refusal::Code);
     }
-    let rows = table.rows;
-    let row = rows[element_codes::row_of(code)];
-    let a = Text::empty().with_number(code as u64).with_byte(9);
+    let row = table.rows[element_codes::row_of(code)];
+    let a = Text::empty().with_number(code as u64).with_byte(b'\t');
     let b = a
         .with_words(name)
-        .with_byte(9)
+        .with_byte(b'\t')
         .with_number(row.outages as u64)
-        .with_byte(9);
+        .with_byte(b'\t');
     let c = with_figure(
         with_per(b, row.stock),
         element_rates::rate_of(table, code),
@@ -97,10 +84,7 @@ pub fn line_of(table: Table, code: u16, name: &[u8]) -> Line
         element_rates::mean_of(table, code),
         element_rates::shown_mean(table, code, 6),
     );
-    Line {
-        answer: 0,
-        text: d.with_byte(10),
-    }
+    Ok(d.with_byte(b'\n'))
 }
 
 // The heading of the sheet: what each column is. Means are in hours.

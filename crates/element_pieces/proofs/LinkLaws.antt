@@ -18,7 +18,7 @@ use Rattle.records.proofs.AnswerLaws.{end_goes_on}
 use Rattle.records.proofs.HeldLaws.{Holding, begins_holding, held_on_lem, held_whole, held_room, stays_fit}
 use Rattle.records.proofs.CallLaws.{GoesOn, calls_hold}
 use Rattle.element_table.specs.declared.Table.{Table}
-use Rattle.element_table.specs.declared.Filed.{Filed}
+use Rattle.element_table.specs.Table.{Filed}
 use Rattle.element_table.specs.Table.{sound_table, seen_as}
 use Rattle.element_table.proofs.AnswerLaws.{file_begins, file_refused}
 use Rattle.element_table.proofs.SoundLaws.{marked_sound}

@@ -1,7 +1,8 @@
 -- *Exactly then*: a rate and a mean are refused with 1, 7 and 17 just where what the number stands for applies and nothing that a smaller one stands
 -- for does; they are a fraction just where none applies; and no other number is answered. Assumes nothing.
 use Prim.Native.Nat.{ℕ}
-use mathlib.Core.Path.{◌≡◌, refl, sym, subst}
+use Rattle.std.specs.Prelude.{Result, Ok, Err}
+use mathlib.Core.Path.{◌≡◌, refl, sym, ap, subst}
 use mathlib.Core.Logic.{◌↔◌, ◌⊎◌, ◌≢◌}
 use mathlib.Core.List.{List, [], ◌∷◌}
 use mathlib.Core.Bool.{Bool, true, false, ◌||◌, true≢false, false≢true}
@@ -10,67 +11,68 @@ use native.Mathlib.Omega.{arith}
 use borrow.Author.Tests.{eqb-true, eqb-false, eq-eqb, ne_eqb}
 use Rattle.base.specs.Lists.{listed}
 use Rattle.base.proofs.TestLaws.{or_left, or_right, or_both}
+use Rattle.refusals.specs.declared.Refusal.{Refusal}
+use Rattle.refusals.specs.declared.Refusal.TheVariants as refusal
+use Rattle.refusals.specs.Refusals.{number_of}
 use Rattle.ratio.specs.declared.Fraction.{Fraction}
 use Rattle.element_codes.specs.Elements.{element_listed}
 use Rattle.element_row.specs.declared.Row.{Row}
 use Rattle.element_table.specs.declared.Table.{Table}
 use Rattle.element_table.specs.Table.{sound_table}
 use Rattle.element_table.proofs.ConditionLaws.{either}
-use Rattle.element_rates.specs.declared.Figure.{Figure}
-use Rattle.element_rates.specs.declared.Figure.TheVariants.{Is, Refused}
 use Rattle.element_rates.specs.Rates.{row_at, rate_of, mean_of}
 use Rattle.element_rates.proofs.FigureLaws.{figure, rate_by0, rate_in, mean_by0, mean_in, rate_is, mean_is}
 
 abbrev pub numbers : List ℕ
 numbers = 1 ∷ 7 ∷ 17 ∷ []
 
-same_number : (m n : ℕ) → Refused m ≡ Refused n → m ≡ n
+same_number : (m n : Refusal) → ◌≡◌ {A = Result Fraction Refusal} (Err m) (Err n) → m ≡ n
 same_number m n e = cc
 
-other_number : (m n : ℕ) → m ≢ n → Refused m ≡ Refused n → ⊥
-other_number m n d e = d (same_number m n e)
+other_number : (m n : Refusal) → number_of m ≢ number_of n → ◌≡◌ {A = Result Fraction Refusal} (Err m) (Err n) → ⊥
+other_number m n d e = d (ap number_of (same_number m n e))
 
-no_number : (n : ℕ) (f : Fraction) → Is f ≡ Refused n → ⊥
+no_number : (n : Refusal) (f : Fraction) → ◌≡◌ {A = Result Fraction Refusal} (Ok f) (Err n) → ⊥
 no_number n f e = let z : ◌≡◌ {A = ℕ} 0 1 = cc in omega arith
 
 -- when a figure is which answer
-record Decided (sound known by-0 : Bool) (a : Figure) : Type 0 where
-  at_1 : (a ≡ Refused 1) ↔ (sound ≡ false)
-  at_7 : (a ≡ Refused 7) ↔ ((sound ≡ true) × (known ≡ false))
-  at_17 : (a ≡ Refused 17) ↔ ((sound ≡ true) × (known ≡ true) × (by-0 ≡ true))
-  at_fraction : ((f : Fraction) × (a ≡ Is f)) ↔ ((sound ≡ true) × (known ≡ true) × (by-0 ≡ false))
-  at_no_other : (n : ℕ) → a ≡ Refused n → listed n numbers ≡ true
+record Decided (sound known by-0 : Bool) (a : Result Fraction Refusal) : Type 0 where
+  at_1 : (a ≡ Err refusal.Unsound) ↔ (sound ≡ false)
+  at_7 : (a ≡ Err refusal.Code) ↔ ((sound ≡ true) × (known ≡ false))
+  at_17 : (a ≡ Err refusal.Nobody) ↔ ((sound ≡ true) × (known ≡ true) × (by-0 ≡ true))
+  at_fraction : ((f : Fraction) × (a ≡ Ok f)) ↔ ((sound ≡ true) × (known ≡ true) × (by-0 ≡ false))
+  at_no_other : (n : Refusal) → a ≡ Err n → listed (number_of n) numbers ≡ true
 
 decided : (sound known by-0 : Bool) (f : Fraction) → Decided sound known by-0 (figure sound known by-0 f)
 decided false known by-0 f =
     record {
       at_1 = (λ e. refl, λ e. refl);
-      at_7 = (λ e. absurd (other_number 1 7 (λ z. omega arith) e), λ e. absurd (false≢true e.0));
-      at_17 = (λ e. absurd (other_number 1 17 (λ z. omega arith) e), λ e. absurd (false≢true e.0));
-      at_fraction = (λ e. absurd (no_number 1 e.0 (sym e.1)), λ e. absurd (false≢true e.0));
-      at_no_other = λ n e. subst (λ k. listed k numbers ≡ true) (same_number 1 n e) refl;
+      at_7 = (λ e. absurd (other_number refusal.Unsound refusal.Code (λ z. omega arith) e), λ e. absurd (false≢true e.0));
+      at_17 = (λ e. absurd (other_number refusal.Unsound refusal.Nobody (λ z. omega arith) e), λ e. absurd (false≢true e.0));
+      at_fraction = (λ e. absurd (no_number refusal.Unsound e.0 (sym e.1)), λ e. absurd (false≢true e.0));
+      at_no_other = λ n e. subst (λ k. listed (number_of k) numbers ≡ true) (same_number refusal.Unsound n e) refl;
     }
 decided true false by-0 f =
     record {
-      at_1 = (λ e. absurd (other_number 7 1 (λ z. omega arith) e), λ e. absurd (true≢false e));
+      at_1 = (λ e. absurd (other_number refusal.Code refusal.Unsound (λ z. omega arith) e), λ e. absurd (true≢false e));
       at_7 = (λ e. (refl, refl), λ e. refl);
-      at_17 = (λ e. absurd (other_number 7 17 (λ z. omega arith) e), λ e. absurd (false≢true e.1));
-      at_fraction = (λ e. absurd (no_number 7 e.0 (sym e.1)), λ e. absurd (false≢true e.1));
-      at_no_other = λ n e. subst (λ k. listed k numbers ≡ true) (same_number 7 n e) refl;
+      at_17 = (λ e. absurd (other_number refusal.Code refusal.Nobody (λ z. omega arith) e), λ e. absurd (false≢true e.1));
+      at_fraction = (λ e. absurd (no_number refusal.Code e.0 (sym e.1)), λ e. absurd (false≢true e.1));
+      at_no_other = λ n e. subst (λ k. listed (number_of k) numbers ≡ true) (same_number refusal.Code n e) refl;
     }
 decided true true true f =
     record {
-      at_1 = (λ e. absurd (other_number 17 1 (λ z. omega arith) e), λ e. absurd (true≢false e));
-      at_7 = (λ e. absurd (other_number 17 7 (λ z. omega arith) e), λ e. absurd (true≢false e.1));
+      at_1 = (λ e. absurd (other_number refusal.Nobody refusal.Unsound (λ z. omega arith) e), λ e. absurd (true≢false e));
+      at_7 = (λ e. absurd (other_number refusal.Nobody refusal.Code (λ z. omega arith) e), λ e. absurd (true≢false e.1));
       at_17 = (λ e. (refl, refl, refl), λ e. refl);
-      at_fraction = (λ e. absurd (no_number 17 e.0 (sym e.1)), λ e. absurd (true≢false e.2));
-      at_no_other = λ n e. subst (λ k. listed k numbers ≡ true) (same_number 17 n e) refl;
+      at_fraction = (λ e. absurd (no_number refusal.Nobody e.0 (sym e.1)), λ e. absurd (true≢false e.2));
+      at_no_other = λ n e. subst (λ k. listed (number_of k) numbers ≡ true) (same_number refusal.Nobody n e) refl;
     }
 decided true true false f =
     record {
-      at_1 = (λ e. absurd (no_number 1 f e), λ e. absurd (true≢false e));
-      at_7 = (λ e. absurd (no_number 7 f e), λ e. absurd (true≢false e.1));
-      at_17 = (λ e. absurd (no_number 17 f e), λ e. absurd (false≢true e.2));
+      at_1 = (λ e. absurd (no_number refusal.Unsound f e), λ e. absurd (true≢false e));
+      at_7 = (λ e. absurd (no_number refusal.Code f e), λ e. absurd (true≢false e.1));
+      at_17 = (λ e. absurd (no_number refusal.Nobody f e), λ e. absurd (false≢true e.2));
       at_fraction = (λ e. (refl, refl, refl), λ e. (f, refl));
       at_no_other = λ n e. absurd (no_number n f e);
     }
@@ -96,45 +98,45 @@ module _ (t : Table) (code : ℕ) where
   row = row_at t code
 
   -- a rate: 1 of an unsound table, 7 of a code not listed, 17 without stock or with an amount of 0, else a fraction; and no other number
-  pub rate_exactly_1 : (rate_of t code ≡ Refused 1) ↔ (sound_table t ≡ false)
+  pub rate_exactly_1 : (rate_of t code ≡ Err refusal.Unsound) ↔ (sound_table t ≡ false)
   rate_exactly_1 = rate.at_1
 
-  pub rate_exactly_7 : (rate_of t code ≡ Refused 7) ↔ ((sound_table t ≡ true) × (element_listed code ≡ false))
+  pub rate_exactly_7 : (rate_of t code ≡ Err refusal.Code) ↔ ((sound_table t ≡ true) × (element_listed code ≡ false))
   rate_exactly_7 = rate.at_7
 
-  pub rate_exactly_17 : (rate_of t code ≡ Refused 17) ↔ ((sound_table t ≡ true) × (element_listed code ≡ true) × ((row.stock ≡ 0) ⊎ (row.amount ≡ 0)))
+  pub rate_exactly_17 : (rate_of t code ≡ Err refusal.Nobody) ↔ ((sound_table t ≡ true) × (element_listed code ≡ true) × ((row.stock ≡ 0) ⊎ (row.amount ≡ 0)))
   rate_exactly_17 = (
     λ e. (let d = rate.at_17.0 e in (d.0, d.1, (one_is_0 row.stock row.amount).0 d.2)),
     λ e. rate.at_17.1 (e.0, e.1, (one_is_0 row.stock row.amount).1 e.2),
   )
 
-  pub rate_exactly_fraction : ((f : Fraction) × (rate_of t code ≡ Is f)) ↔ ((sound_table t ≡ true) × (element_listed code ≡ true) × (row.stock ≢ 0) × (row.amount ≢ 0))
+  pub rate_exactly_fraction : ((f : Fraction) × (rate_of t code ≡ Ok f)) ↔ ((sound_table t ≡ true) × (element_listed code ≡ true) × (row.stock ≢ 0) × (row.amount ≢ 0))
   rate_exactly_fraction = (
     λ e. (let d = rate.at_fraction.0 e in let n = (none_is_0 row.stock row.amount).0 d.2 in (d.0, d.1, n.0, n.1)),
     λ e. rate.at_fraction.1 (e.0, e.1, (none_is_0 row.stock row.amount).1 (e.2, e.3)),
   )
 
-  pub rate_no_other : (n : ℕ) → rate_of t code ≡ Refused n → listed n numbers ≡ true
+  pub rate_no_other : (r : Refusal) → rate_of t code ≡ Err r → listed (number_of r) numbers ≡ true
   rate_no_other = rate.at_no_other
 
   -- a mean: the same, but 17 where there is no outage
-  pub mean_exactly_1 : (mean_of t code ≡ Refused 1) ↔ (sound_table t ≡ false)
+  pub mean_exactly_1 : (mean_of t code ≡ Err refusal.Unsound) ↔ (sound_table t ≡ false)
   mean_exactly_1 = mean.at_1
 
-  pub mean_exactly_7 : (mean_of t code ≡ Refused 7) ↔ ((sound_table t ≡ true) × (element_listed code ≡ false))
+  pub mean_exactly_7 : (mean_of t code ≡ Err refusal.Code) ↔ ((sound_table t ≡ true) × (element_listed code ≡ false))
   mean_exactly_7 = mean.at_7
 
-  pub mean_exactly_17 : (mean_of t code ≡ Refused 17) ↔ ((sound_table t ≡ true) × (element_listed code ≡ true) × (row.outages ≡ 0))
+  pub mean_exactly_17 : (mean_of t code ≡ Err refusal.Nobody) ↔ ((sound_table t ≡ true) × (element_listed code ≡ true) × (row.outages ≡ 0))
   mean_exactly_17 = (
     λ e. (let d = mean.at_17.0 e in (d.0, d.1, eqb-true row.outages 0 d.2)),
     λ e. mean.at_17.1 (e.0, e.1, eq-eqb row.outages 0 e.2),
   )
 
-  pub mean_exactly_fraction : ((f : Fraction) × (mean_of t code ≡ Is f)) ↔ ((sound_table t ≡ true) × (element_listed code ≡ true) × (row.outages ≢ 0))
+  pub mean_exactly_fraction : ((f : Fraction) × (mean_of t code ≡ Ok f)) ↔ ((sound_table t ≡ true) × (element_listed code ≡ true) × (row.outages ≢ 0))
   mean_exactly_fraction = (
     λ e. (let d = mean.at_fraction.0 e in (d.0, d.1, eqb-false row.outages 0 d.2)),
     λ e. mean.at_fraction.1 (e.0, e.1, ne_eqb row.outages 0 e.2),
   )
 
-  pub mean_no_other : (n : ℕ) → mean_of t code ≡ Refused n → listed n numbers ≡ true
+  pub mean_no_other : (r : Refusal) → mean_of t code ≡ Err r → listed (number_of r) numbers ≡ true
   mean_no_other = mean.at_no_other

@@ -1,18 +1,17 @@
 -- 003, section 5, as 02 (K1) takes it: "outages / (pieces x years), or for lines 1000 x outages / (tenths of km x years) per year and 100 km, and the
 -- mean outage in hours as minutes / (60 x outages). All are exact fractions."
-use Rattle.std.specs.Prelude.{ℕ, ◌*◌, ◌||◌, not, cond, ◌≡◌, eqb}
+use Rattle.std.specs.Prelude.{ℕ, ◌*◌, ◌||◌, not, cond, ◌≡◌, eqb, Result, Ok, Err}
+use Rattle.refusals.specs.declared.Refusal.{Refusal}
+use Rattle.refusals.specs.declared.Refusal.TheVariants as refusal
 use Rattle.ratio.specs.declared.Fraction.{Fraction}
 use Rattle.ratio.specs.Fraction.{whole, product, Same}
 use Rattle.ratio.specs.Lowest.{lowest_of, Lowest}
-use Rattle.decimal.specs.declared.Shown.{Shown}
-use Rattle.decimal.specs.declared.Shown.TheVariants as shown
+use Rattle.decimal.specs.declared.Decimal.{Decimal}
 use Rattle.decimal.specs.Decimal.{shown_of}
 use Rattle.element_codes.specs.Elements.{element_listed, row_of}
 use Rattle.element_row.specs.declared.Row.{Row}
 use Rattle.element_table.specs.declared.Table.{Table}
 use Rattle.element_table.specs.Table.{row_or, sound_table}
-use Rattle.element_rates.specs.declared.Figure.{Figure}
-use Rattle.element_rates.specs.declared.Figure.TheVariants.{Is, Refused}
 
 -- the row of a code
 abbrev pub row_at : Table → ℕ → Row
@@ -23,30 +22,30 @@ abbrev pub weight_of : ℕ → ℕ
 weight_of stock = cond (eqb stock 2) 1000 1
 
 -- 1: an unsound table; 7: an unknown code; 17: a code without stock, stock or length of 0
-unfoldable pub rate_of : Table → ℕ → Figure
+unfoldable pub rate_of : Table → ℕ → Result Fraction Refusal
 rate_of t code =
-    cond (not (sound_table t)) (Refused 1)
-    (cond (not (element_listed code)) (Refused 7)
-    (cond (eqb (row_at t code).stock 0 || eqb (row_at t code).amount 0) (Refused 17)
-    (Is (lowest_of (weight_of (row_at t code).stock * (row_at t code).outages) ((row_at t code).amount * t.period)))))
+    cond (not (sound_table t)) (Err refusal.Unsound)
+    (cond (not (element_listed code)) (Err refusal.Code)
+    (cond (eqb (row_at t code).stock 0 || eqb (row_at t code).amount 0) (Err refusal.Nobody)
+    (Ok (lowest_of (weight_of (row_at t code).stock * (row_at t code).outages) ((row_at t code).amount * t.period)))))
 
 -- 17: no outage
-unfoldable pub mean_of : Table → ℕ → Figure
+unfoldable pub mean_of : Table → ℕ → Result Fraction Refusal
 mean_of t code =
-    cond (not (sound_table t)) (Refused 1)
-    (cond (not (element_listed code)) (Refused 7)
-    (cond (eqb (row_at t code).outages 0) (Refused 17)
-    (Is (lowest_of (row_at t code).minutes (60 * (row_at t code).outages)))))
+    cond (not (sound_table t)) (Err refusal.Unsound)
+    (cond (not (element_listed code)) (Err refusal.Code)
+    (cond (eqb (row_at t code).outages 0) (Err refusal.Nobody)
+    (Ok (lowest_of (row_at t code).minutes (60 * (row_at t code).outages)))))
 
 -- the same as decimals
-abbrev pub shown_figure : Figure → ℕ → Shown
-shown_figure (Is f) digits = shown_of f digits
-shown_figure (Refused n) digits = shown.Refused n
+abbrev pub shown_figure : Result Fraction Refusal → ℕ → Result Decimal Refusal
+shown_figure (Ok f) digits = shown_of f digits
+shown_figure (Err n) digits = Err n
 
-unfoldable pub shown_rate : Table → ℕ → ℕ → Shown
+unfoldable pub shown_rate : Table → ℕ → ℕ → Result Decimal Refusal
 shown_rate t code digits = shown_figure (rate_of t code) digits
 
-unfoldable pub shown_mean : Table → ℕ → ℕ → Shown
+unfoldable pub shown_mean : Table → ℕ → ℕ → Result Decimal Refusal
 shown_mean t code digits = shown_figure (mean_of t code) digits
 
 -- 003, section 5, as printed, with exact fractions: λ = N / (Z · P)
@@ -74,9 +73,9 @@ abbrev pub mean_hours : ℕ → ℕ → Fraction
 mean_hours minutes n = quotient (hours minutes) (whole n)
 
 -- the figure is a fraction in lowest terms, of the value of a formula that exists, and no other fraction is
-pub record Exact (a : Figure) (formula : Fraction) : Type 0 where
+pub record Exact (a : Result Fraction Refusal) (formula : Fraction) : Type 0 where
   pub fraction : Fraction
-  pub is : a ≡ Is fraction
+  pub is : a ≡ Ok fraction
   pub lowest : Lowest fraction
   pub same : Same fraction formula
   pub exists : formula.bottom ≡ 0 → ⊥

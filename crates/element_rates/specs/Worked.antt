@@ -1,13 +1,14 @@
 -- Worked cases of section 5 of 003, each computed through the definitions that the contracts cite.
-use Rattle.std.specs.Prelude.{ℕ, ◌≡◌, List, [], ◌∷◌, true, set, replicate}
+use Rattle.std.specs.Prelude.{ℕ, ◌≡◌, List, [], ◌∷◌, true, set, replicate, Result, Ok, Err}
 use Rattle.base.specs.Lists.{All}
+use Rattle.refusals.specs.declared.Refusal.{Refusal}
+use Rattle.refusals.specs.Refusals.{number_of}
+use Rattle.ratio.specs.declared.Fraction.{Fraction}
 use Rattle.decimal.specs.Decimal.{decimally}
 use Rattle.element_codes.specs.Elements.{element_count, row_of}
 use Rattle.element_row.specs.declared.Row.{Row}
 use Rattle.element_table.specs.declared.Table.{Table}
 use Rattle.element_row.specs.Row.{no_row}
-use Rattle.element_rates.specs.declared.Figure.{Figure}
-use Rattle.element_rates.specs.declared.Figure.TheVariants.{Is, Refused}
 use Rattle.element_rates.specs.Rates.{rate_of, mean_of, shown_rate, shown_mean}
 
 -- a table of so many years that knows of one element
@@ -33,9 +34,9 @@ abbrev pub cable : Table
 cable = table_of 2 6 (line 7 2520 125)
 
 -- a figure in numbers: 0, top and bottom; or the refusal
-abbrev pub exactly : Figure → List ℕ
-exactly (Is f) = 0 ∷ f.top ∷ f.bottom ∷ []
-exactly (Refused n) = n ∷ []
+abbrev pub exactly : Result Fraction Refusal → List ℕ
+exactly (Ok f) = 0 ∷ f.top ∷ f.bottom ∷ []
+exactly (Err r) = number_of r ∷ []
 
 -- a case: what is computed, and what comes out
 pub record Case : Type 0 where

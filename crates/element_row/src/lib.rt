@@ -10,6 +10,7 @@ pub const MOST_OUTAGES: u32 = 65535;
 pub const LONGEST: u64 = 600000;
 
 // What is known of one element: its outages with their minutes, and its stock: 0 none told, 1 pieces, 2 line in tenths of a kilometre.
+// The mark is a number and no enum, since a table may be lent with another mark, which is answered as unsound (element_cases, "mark 3").
 #[derive(Clone, Copy)]
 pub struct Row {
     pub outages: u32,
@@ -39,8 +40,7 @@ impl Row {
         Row {
             outages: self.outages + 1,
             minutes: self.minutes + minutes as u64,
-            stock: self.stock,
-            amount: self.amount,
+            ..self
         }
     }
 
@@ -50,10 +50,9 @@ impl Row {
         ensures { result ≡ with_stock self unit amount }
     {
         Row {
-            outages: self.outages,
-            minutes: self.minutes,
             stock: unit + 1,
             amount,
+            ..self
         }
     }
 
@@ -61,9 +60,9 @@ impl Row {
     pub fn within(self) -> bool
         ensures { result ≡ row_within self }
     {
-        (self.outages <= MOST_OUTAGES)
-            & (self.minutes <= self.outages as u64 * LONGEST)
-            & (self.stock <= 2)
-            & ((0 < self.stock) | (self.amount == 0))
+        self.outages <= MOST_OUTAGES
+            && self.minutes <= self.outages as u64 * LONGEST
+            && self.stock <= 2
+            && (0 < self.stock || self.amount == 0)
     }
 }

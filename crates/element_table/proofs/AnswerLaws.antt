@@ -1,8 +1,8 @@
 -- The answer to a record, once the table is sound and the record framed, by its kind; that no rule applies to an accepted record; and what beginning
 -- a table and a file comes to. Callers cite these laws and not the definitions. Assumes nothing.
 use Prim.Native.Nat.{ℕ}
-use mathlib.Core.Path.{◌≡◌, ap, ◌∙◌}
-use mathlib.Core.Logic.{◌⊎◌}
+use mathlib.Core.Path.{◌≡◌, refl, ap, ◌∙◌}
+use mathlib.Core.Logic.{◌≢◌, ◌⊎◌}
 use mathlib.Core.List.{List}
 use mathlib.Core.Bool.{true, false, cond, not}
 use Rattle.base.specs.First.{first, Clear, Rising}
@@ -12,7 +12,10 @@ use Rattle.element_table.specs.declared.Table.{Table}
 use Rattle.element_table.specs.Table.{begun, period_within, begin_of, sound_table, seen_as, file_begun}
 use Rattle.element_rules.specs.Answers.{sheet_answer, outage_answer, stock_answer}
 use Rattle.element_table.specs.Rules.{row_named, rules_at, rules, answer_of}
-use Rattle.element_table.proofs.ConditionLaws.{kind_taken}
+use Rattle.element_table.specs.declared.Kind.{Kind}
+use Rattle.element_table.specs.declared.Kind.TheVariants.{Sheet, Outage, Stock}
+use Rattle.element_table.specs.Kind.{number_of_kind, answer_at}
+use Rattle.element_table.proofs.ConditionLaws.{says_3, kind_taken}
 
 module _ (t : Table) (s : List ℕ) where
   -- the numbers of the rules rise
@@ -50,6 +53,15 @@ module _ (t : Table) (s : List ℕ) where
 
     pub stock_answered : kind_of s ≡ 5 → answer_of t s ≡ stock_answer t.seen (row_named t s) s
     stock_answered = by_kind 5
+
+    pub kind_answered : (kind : Kind) → kind_of s ≡ number_of_kind kind → answer_of t s ≡ answer_at kind t s
+    kind_answered Sheet = sheet_answered
+    kind_answered Outage = outage_answered
+    kind_answered Stock = stock_answered
+
+    -- and a kind that is not taken is answered 3
+    pub none_answered : (kind_of s ≢ 1) × (kind_of s ≢ 4) × (kind_of s ≢ 5) → answer_of t s ≡ 3
+    none_answered n = by_kind (kind_of s) refl ∙ rw ((says_3 (kind_of s)).1 n)
 
 -- a table is begun for its period, or refused without one
 module _ (period : ℕ) where

@@ -1,13 +1,14 @@
 -- What soundness bounds (02, K1: what is not "1 a table past its bounds"), said in numbers: the tests of the period and of a row are those numbers'
 -- tests, and a table is sound exactly where its period and each row pass. Assumes nothing.
 use Prim.Native.Nat.{ℕ, zero, suc, ◌<◌, ◌≤◌}
-use mathlib.Core.Path.{◌≡◌, refl, sym, ◌∙◌}
+use mathlib.Core.Path.{◌≡◌, refl, sym, ap, ◌∙◌}
 use mathlib.Core.Logic.{◌↔◌, ◌⊎◌, inl, inr}
 use mathlib.Core.List.{List, [], ◌∷◌}
-use mathlib.Core.Bool.{true, false, true≢false}
+use mathlib.Core.Bool.{true, false, ◌&&◌, true≢false}
 use lib.Dec.{leb}
 use native.Mathlib.Omega.{arith}
 use borrow.Author.Tests.{leb-true, leb-false, le-leb}
+use Rattle.std.specs.List.{list_all}
 use Rattle.base.specs.Lists.{every}
 use Rattle.base.proofs.TestLaws.{Tested, holds, fails, test, and_left, and_right, and_both}
 use Rattle.element_row.specs.declared.Row.{Row}
@@ -39,6 +40,11 @@ module _ (period : ℕ) where
       back (holds e) (inl none) = let i = period_within_lem.0 e in absurd (omega arith)
       back (holds e) (inr many) = let i = period_within_lem.0 e in absurd (omega arith)
       back (fails e) o = e
+
+-- the library's test of each row is the definition's
+pub all_rows : (rows : List Row) → list_all row_within rows ≡ every row_within rows
+all_rows [] = refl
+all_rows (r ∷ rows) = ap (λ b. row_within r && b) (all_rows rows)
 
 -- past the last row there is none, and that is within the bounds
 each_row : (rows : List Row) → every row_within rows ≡ true → (row : ℕ) → row_within (row_or rows row) ≡ true

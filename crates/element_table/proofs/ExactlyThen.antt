@@ -19,7 +19,7 @@ use Rattle.codes.specs.Ranges.{latest}
 use Rattle.element_codes.specs.Elements.{element_listed}
 use Rattle.element_row.specs.Row.{most_outages}
 use Rattle.element_table.specs.declared.Table.{Table}
-use Rattle.element_table.specs.declared.Filed.{Filed}
+use Rattle.element_table.specs.Table.{Filed}
 use Rattle.element_table.specs.Table.{period_within, begin_of, sound_table, file_begun}
 use Rattle.element_rules.specs.Fields.{code_in, start_in, end_in, unit_in}
 use Rattle.element_table.specs.Rules.{row_named, rules_at, rules, answer_of}

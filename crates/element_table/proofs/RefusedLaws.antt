@@ -16,7 +16,7 @@ use Rattle.element_codes.specs.Elements.{element_listed, row_of}
 use Rattle.element_codes.proofs.CodeLaws.{listed_row}
 use Rattle.element_row.specs.declared.Row.{Row}
 use Rattle.element_table.specs.declared.Table.{Table}
-use Rattle.element_table.specs.declared.Filed.{Filed}
+use Rattle.element_table.specs.Table.{Filed}
 use Rattle.element_row.specs.Row.{no_row}
 use Rattle.element_table.specs.Table.{begun, row_or, period_within, begin_of, sound_table, seen_as, file_begun}
 use Rattle.element_rules.specs.Fields.{code_in, start_in, end_in, unit_in, amount_in}

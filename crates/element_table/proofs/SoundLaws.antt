@@ -13,7 +13,7 @@ use Rattle.wire.specs.Frame.{kind_of}
 use Rattle.element_codes.specs.Elements.{row_of}
 use Rattle.element_row.specs.declared.Row.{Row}
 use Rattle.element_table.specs.declared.Table.{Table}
-use Rattle.element_table.specs.declared.Filed.{Filed}
+use Rattle.element_table.specs.Table.{Filed}
 use Rattle.element_row.specs.Row.{row_within, RowSound}
 use Rattle.element_table.specs.Table.{begun, period_within, begin_of, sound_table, seen_as, file_begun}
 use Rattle.element_rules.specs.Fields.{code_in, start_in, end_in, unit_in, amount_in}

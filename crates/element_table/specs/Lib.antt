@@ -1,4 +1,5 @@
 pub mod Table
 pub mod Rules
+pub mod Kind
 pub mod Right
 pub mod Take

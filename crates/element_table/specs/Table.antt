@@ -1,12 +1,23 @@
 -- "An element table is begun for an observation period of 1 to 50 whole years and fed one or more yearly files" (02, K1): what it holds, when it is
 -- sound, how it and a file are begun.
-use Rattle.std.specs.Prelude.{ℕ, List, Bool, false, ◌&&◌, cond, get_or, replicate, leb}
+use Rattle.std.specs.Prelude.{ℕ, List, Bool, false, ◌&&◌, cond, get_or, replicate, leb, Result, Ok, Err}
 use Rattle.base.specs.Lists.{every}
+use Rattle.refusals.specs.declared.Refusal.{Refusal}
+use Rattle.refusals.specs.Refusals.{number_of}
 use Rattle.element_codes.specs.Elements.{element_count}
 use Rattle.element_row.specs.declared.Row.{Row}
 use Rattle.element_row.specs.Row.{no_row, row_within}
 use Rattle.element_table.specs.declared.Table.{Table}
-use Rattle.element_table.specs.declared.Filed.{Filed}
+
+-- an answer number, and the next table
+pub record Filed : Type 0 where
+  pub answer : ℕ
+  pub table : Table
+
+-- an outcome by number and table: a refusal leaves the table that stands beside it
+abbrev pub filed_in : Table → Result Table Refusal → Filed
+filed_in left (Ok next) = record { answer = 0; table = next }
+filed_in left (Err refusal) = record { answer = number_of refusal; table = left }
 
 abbrev pub begun : ℕ → Table
 begun period = record { period = period; seen = false; rows = replicate element_count no_row }

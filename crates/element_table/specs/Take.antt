@@ -5,7 +5,7 @@ use Rattle.element_codes.specs.Elements.{row_of}
 use Rattle.element_row.specs.declared.Row.{Row}
 use Rattle.element_row.specs.Row.{with_outage, with_stock}
 use Rattle.element_table.specs.declared.Table.{Table}
-use Rattle.element_table.specs.declared.Filed.{Filed}
+use Rattle.element_table.specs.Table.{Filed}
 use Rattle.element_table.specs.Table.{seen_as}
 use Rattle.element_rules.specs.Fields.{code_in, start_in, end_in, unit_in, amount_in}
 use Rattle.element_table.specs.Rules.{row_named, answer_of}

@@ -9,6 +9,9 @@ use native.Mathlib.Nat.{mul_assoc, mul_left_comm, one-mul, mul-pos}
 use native.Mathlib.Omega.{arith}
 use borrow.Author.Tests.{eq-eqb, ne_eqb, eqb-true, eqb-false}
 use Rattle.base.proofs.TestLaws.{Tested, holds, fails, test}
+use Rattle.std.specs.Prelude.{Ok, Err}
+use Rattle.refusals.specs.declared.Refusal.{Refusal}
+use Rattle.refusals.specs.declared.Refusal.TheVariants as refusal
 use Rattle.ratio.specs.declared.Fraction.{Fraction}
 use Rattle.ratio.specs.Fraction.{Same, product}
 use Rattle.ratio.specs.Lowest.{Lowest, lowest_of}
@@ -24,22 +27,21 @@ use Rattle.index.specs.declared.Level.{Level}
 use Rattle.index.specs.declared.Level.TheVariants.{NN, VN, VVN, Network}
 use Rattle.index.specs.declared.Index.{Index}
 use Rattle.index.specs.declared.Index.TheVariants.{Saifi, Saidi, Caidi}
-use Rattle.index.specs.declared.Answer.TheVariants.{Is, Refused}
 use Rattle.index.specs.Sums.{level_sum, total_of}
 use Rattle.index.specs.Index.{formula_of, weight_of, divided_by, index_of, shown_answer, shown_index}
 use Rattle.index.specs.Answered.{Way, unsound, sheetless, divides_by_nobody, answered, Given, Exact}
 
 module _ (l : Ledger) (index : Index) (level : Level) (set : Set) where
   -- an unsound ledger is refused with 1, then no sheet with 5, then nobody to divide by with 17; else the formula in lowest terms
-  pub unsound_refused : sound_ledger l ≡ false → index_of l index level set ≡ Refused 1
+  pub unsound_refused : sound_ledger l ≡ false → index_of l index level set ≡ Err refusal.Unsound
   unfolding index_of
   unsound_refused s = rw s
 
-  pub sheetless_refused : sound_ledger l ≡ true → l.sheet.there ≡ false → index_of l index level set ≡ Refused 5
+  pub sheetless_refused : sound_ledger l ≡ true → l.sheet.there ≡ false → index_of l index level set ≡ Err refusal.Sheet
   unfolding index_of
   sheetless_refused s t = rw (s, t)
 
-  pub nobody_refused : sound_ledger l ≡ true → l.sheet.there ≡ true → divided_by l index level set ≡ 0 → index_of l index level set ≡ Refused 17
+  pub nobody_refused : sound_ledger l ≡ true → l.sheet.there ≡ true → divided_by l index level set ≡ 0 → index_of l index level set ≡ Err refusal.Nobody
   unfolding index_of
   nobody_refused s t n = rw (s, t, eq-eqb (divided_by l index level set) 0 n)
 
@@ -47,7 +49,7 @@ module _ (l : Ledger) (index : Index) (level : Level) (set : Set) where
       sound_ledger l ≡ true →
       l.sheet.there ≡ true →
       (divided_by l index level set ≡ 0 → ⊥) →
-      index_of l index level set ≡ Is (lowest_of (formula_of l index level set).top (formula_of l index level set).bottom)
+      index_of l index level set ≡ Ok (lowest_of (formula_of l index level set).top (formula_of l index level set).bottom)
   unfolding index_of
   somebody_answered s t n = rw (s, t, ne_eqb (divided_by l index level set) 0 n)
 
@@ -77,8 +79,8 @@ weighted_exists Saifi d n e = n (omega arith)
 weighted_exists Saidi d n e = n (omega arith)
 weighted_exists Caidi d n e = n (omega arith)
 
-module _ (l : Ledger) (index : Index) (level : Level) (set : Set) (f : Fraction) (e : index_of l index level set ≡ Is f) where
-  refuses_no_fraction : (n : ℕ) → index_of l index level set ≡ Refused n → ⊥
+module _ (l : Ledger) (index : Index) (level : Level) (set : Set) (f : Fraction) (e : index_of l index level set ≡ Ok f) where
+  refuses_no_fraction : (n : Refusal) → index_of l index level set ≡ Err n → ⊥
   refuses_no_fraction n r = let z : ◌≡◌ {A = ℕ} 0 1 = cc in omega arith
 
   -- where the answer is a fraction: the ledger is sound and has a sheet, the index divides by somebody, and f is the formula in lowest terms
@@ -86,9 +88,9 @@ module _ (l : Ledger) (index : Index) (level : Level) (set : Set) (f : Fraction)
   fraction_says = go (index_exactly l index level set)
     where
       go : Way l index level set (index_of l index level set) → Given l index level set f
-      go (unsound s r) = absurd (refuses_no_fraction 1 r)
-      go (sheetless s t r) = absurd (refuses_no_fraction 5 r)
-      go (divides_by_nobody s t n r) = absurd (refuses_no_fraction 17 r)
+      go (unsound s r) = absurd (refuses_no_fraction refusal.Unsound r)
+      go (sheetless s t r) = absurd (refuses_no_fraction refusal.Sheet r)
+      go (divides_by_nobody s t n r) = absurd (refuses_no_fraction refusal.Nobody r)
       go (answered s t n r) = record { sound = s; there = t; somebody = n; is = cc }
 
   -- it is in lowest terms and of the formula's value, which exists
@@ -120,9 +122,9 @@ both_exist m n p q e = let z : 0 < m * n = mul-pos {m = m} {n = n} (omega arith)
 -- where SAIFI and CAIDI are answered, so is SAIDI, and it is their product
 pub caidi_times_saifi :
     (l : Ledger) (level : Level) (set : Set) (a b : Fraction) →
-    index_of l Saifi level set ≡ Is a →
-    index_of l Caidi level set ≡ Is b →
-    (c : Fraction) × (index_of l Saidi level set ≡ Is c) × Same (product b a) c
+    index_of l Saifi level set ≡ Ok a →
+    index_of l Caidi level set ≡ Ok b →
+    (c : Fraction) × (index_of l Saidi level set ≡ Ok c) × Same (product b a) c
 caidi_times_saifi l level set a b p q =
     let saifi = formula_of l Saifi level set in
     let saidi = formula_of l Saidi level set in

@@ -1,6 +1,7 @@
 -- An index and its decimal in 01's numbers: they tell an answer apart from every other; 1, 5, 17 and 18 are answered exactly then; and a decimal is the
 -- one nearest to 01's formula. Assumes nothing.
 use Prim.Native.Nat.{ℕ, ◌^◌, ◌≤◌}
+use Rattle.std.specs.Prelude.{Result, Ok, Err}
 use mathlib.Core.Path.{◌≡◌, refl, sym, ap, subst, ◌∙◌}
 use mathlib.Core.Logic.{◌↔◌}
 use mathlib.Core.List.{List, [], ◌∷◌}
@@ -9,14 +10,15 @@ use lib.ListN.{length, get_or}
 use lib.Dec.{ltb, eqb}
 use native.Mathlib.Omega.{arith}
 use borrow.Author.Tests.{eqb-false, ne_eqb, ltb-true, ltb-false}
-use Rattle.base.specs.First.{first, Foremost}
+use Rattle.base.specs.First.{Foremost}
 use Rattle.base.proofs.TestLaws.{Tested, holds, fails, test}
+use Rattle.refusals.specs.declared.Refusal.{Refusal}
+use Rattle.refusals.specs.declared.Refusal.TheVariants as refusal
+use Rattle.refusals.proofs.NumberLaws.{same_refusal}
 use Rattle.ratio.specs.declared.Fraction.{Fraction}
 use Rattle.ratio.specs.Lowest.{lowest_of}
 use Rattle.ratio.proofs.Euclid.{lowest_lowest}
 use Rattle.decimal.specs.declared.Decimal.{Decimal}
-use Rattle.decimal.specs.declared.Shown.{Shown}
-use Rattle.decimal.specs.declared.Shown.TheVariants as shown
 use Rattle.decimal.specs.Decimal.{split_at, decimal_of, shown_of, decimally, numbers_by, answer_number, shown_numbers}
 use Rattle.decimal.proofs.DivisionLaws.{split_under}
 use Rattle.decimal.proofs.RoundLaws.{rounded_nearest, nearest_unique, digits_below, decimal_value, lowest_decimal, too_many_18, else_shown}
@@ -26,21 +28,19 @@ use Rattle.ledger.specs.declared.Ledger.{Ledger}
 use Rattle.ledger.specs.Sound.{sound_ledger}
 use Rattle.index.specs.declared.Level.{Level}
 use Rattle.index.specs.declared.Index.{Index}
-use Rattle.index.specs.declared.Answer.{Answer}
-use Rattle.index.specs.declared.Answer.TheVariants.{Is, Refused}
-use Rattle.index.specs.Index.{formula_of, divided_by, index_rules, decimal_rules, answered_by, index_of, exactly, index_numbers, decimal_numbers, shown_answer, shown_index}
+use Rattle.index.specs.Index.{formula_of, divided_by, index_rules, decimal_rules, index_of, exactly, index_numbers, decimal_numbers, shown_answer, shown_index}
 use Rattle.index.specs.Answered.{Way, unsound, sheetless, divides_by_nobody, answered, Rounded}
 use Rattle.index.proofs.IndexLaws.{weighted_exists, index_exactly}
 
 -- two answers of the same numbers are the same
-pub exactly_decides : (a b : Answer) → exactly a ≡ exactly b → a ≡ b
-exactly_decides (Is f) (Is g) p =
+pub exactly_decides : (a b : Result Fraction Refusal) → exactly a ≡ exactly b → a ≡ b
+exactly_decides (Ok f) (Ok g) p =
     let top : f.top ≡ g.top = ap (λ (ns : List ℕ). get_or ns 1 0) p in
     let bottom : f.bottom ≡ g.bottom = ap (λ (ns : List ℕ). get_or ns 2 0) p in
-    λ i. Is (record { top = top i; bottom = bottom i })
-exactly_decides (Is f) (Refused n) p = absurd (let z : ◌≡◌ {A = ℕ} 3 1 = ap length p in omega arith)
-exactly_decides (Refused m) (Is g) p = absurd (let z : ◌≡◌ {A = ℕ} 1 3 = ap length p in omega arith)
-exactly_decides (Refused m) (Refused n) p = ap Refused (ap (λ (ns : List ℕ). get_or ns 0 0) p)
+    λ i. Ok (record { top = top i; bottom = bottom i })
+exactly_decides (Ok f) (Err n) p = absurd (let z : ◌≡◌ {A = ℕ} 3 1 = ap length p in omega arith)
+exactly_decides (Err m) (Ok g) p = absurd (let z : ◌≡◌ {A = ℕ} 1 3 = ap length p in omega arith)
+exactly_decides (Err m) (Err n) p = ap Err (same_refusal m n (ap (λ (ns : List ℕ). get_or ns 0 0) p))
 
 module _ (l : Ledger) (index : Index) (level : Level) (set : Set) where
   abbrev formula : Fraction
@@ -52,17 +52,22 @@ module _ (l : Ledger) (index : Index) (level : Level) (set : Set) where
   -- an index has the numbers that its rules give
   pub index_numbers_lem : exactly (index_of l index level set) ≡ index_numbers l index level set
   unfolding index_of index_numbers
-  index_numbers_lem = go (eqb (first (index_rules l index level set)) 0) (first (index_rules l index level set))
+  index_numbers_lem = go (not (sound_ledger l)) (not l.sheet.there) (eqb (divided_by l index level set) 0)
     where
-      go : (t : Bool) (n : ℕ) → exactly (cond t (Is lowest) (Refused n)) ≡ cond t (0 ∷ lowest.top ∷ lowest.bottom ∷ []) (n ∷ [])
-      go true n = refl
-      go false n = refl
+      go :
+          (a b c : Bool) →
+          exactly (cond a (Err refusal.Unsound) (cond b (Err refusal.Sheet) (cond c (Err refusal.Nobody) (Ok lowest)))) ≡
+          numbers_by ((1, a) ∷ (5, b) ∷ (17, c) ∷ []) (lowest.top ∷ lowest.bottom ∷ [])
+      go true b c = refl
+      go false true c = refl
+      go false false true = refl
+      go false false false = refl
 
   -- the answer has these numbers, and what has them is the answer
-  pub index_told : (r : Answer) → r ≡ index_of l index level set → exactly r ≡ index_numbers l index level set
+  pub index_told : (r : Result Fraction Refusal) → r ≡ index_of l index level set → exactly r ≡ index_numbers l index level set
   index_told r e = ap exactly e ∙ index_numbers_lem
 
-  pub index_is : (r : Answer) → exactly r ≡ index_numbers l index level set → r ≡ index_of l index level set
+  pub index_is : (r : Result Fraction Refusal) → exactly r ≡ index_numbers l index level set → r ≡ index_of l index level set
   index_is r e = exactly_decides r (index_of l index level set) (e ∙ sym index_numbers_lem)
 
   -- a number is answered exactly where its rule applies and none before it does, and 0 exactly where none applies
@@ -98,7 +103,7 @@ module _ (l : Ledger) (index : Index) (level : Level) (set : Set) where
         go :
             (a b c : Bool) →
             eqb (divided_by l index level set) 0 ≡ c →
-            decimally (shown_answer (answered_by ((1, a) ∷ (5, b) ∷ (17, c) ∷ []) lowest) digits) ≡
+            decimally (shown_answer (cond a (Err refusal.Unsound) (cond b (Err refusal.Sheet) (cond c (Err refusal.Nobody) (Ok lowest)))) digits) ≡
             numbers_by ((1, a) ∷ (5, b) ∷ (17, c) ∷ (18, ltb 6 digits) ∷ []) (d.whole ∷ d.digits ∷ [])
         go true b c e = refl
         go false true c e = refl
@@ -106,7 +111,7 @@ module _ (l : Ledger) (index : Index) (level : Level) (set : Set) where
         go false false false e = shown_lowest digits (eqb-false _ _ e)
 
     -- what has these numbers is the decimal
-    pub decimal_is : (r : Shown) → decimally r ≡ decimal_numbers l index level set digits → r ≡ shown_index l index level set digits
+    pub decimal_is : (r : Result Decimal Refusal) → decimally r ≡ decimal_numbers l index level set digits → r ≡ shown_index l index level set digits
     decimal_is r e = decimally_decides r (shown_index l index level set digits) (e ∙ sym decimal_numbers_lem)
 
     -- a number is answered exactly where its rule applies and none before it does, and 0 exactly where none applies
@@ -119,8 +124,8 @@ module _ (l : Ledger) (index : Index) (level : Level) (set : Set) where
         (numbers_exactly (decimal_rules l index level set digits) (d.whole ∷ d.digits ∷ []) (tt, (tt, (tt, (tt, tt)))) n)
 
     -- what is shown is 01's formula, rounded to nearest, a tie upward
-    module _ (d : Decimal) (e : shown_index l index level set digits ≡ shown.Is d) where
-      refuses_no_decimal : (n : ℕ) → shown_index l index level set digits ≡ shown.Refused n → ⊥
+    module _ (d : Decimal) (e : shown_index l index level set digits ≡ Ok d) where
+      refuses_no_decimal : (n : Refusal) → shown_index l index level set digits ≡ Err n → ⊥
       refuses_no_decimal n r = let z : ◌≡◌ {A = ℕ} 0 1 = cc in omega arith
 
       rounded_formula : digits ≤ 6 → (formula.bottom ≡ 0 → ⊥) → decimal_of formula digits ≡ d → Rounded l index level set digits d
@@ -136,18 +141,18 @@ module _ (l : Ledger) (index : Index) (level : Level) (set : Set) where
       decimal_nearest = go (index_exactly l index level set) (test (ltb 6 digits))
         where
           go : Way l index level set (index_of l index level set) → Tested (ltb 6 digits) → Rounded l index level set digits d
-          go (unsound s r) t = absurd (refuses_no_decimal 1 (ap (λ a. shown_answer a digits) r))
-          go (sheetless s u r) t = absurd (refuses_no_decimal 5 (ap (λ a. shown_answer a digits) r))
-          go (divides_by_nobody s u n r) t = absurd (refuses_no_decimal 17 (ap (λ a. shown_answer a digits) r))
+          go (unsound s r) t = absurd (refuses_no_decimal refusal.Unsound (ap (λ a. shown_answer a digits) r))
+          go (sheetless s u r) t = absurd (refuses_no_decimal refusal.Sheet (ap (λ a. shown_answer a digits) r))
+          go (divides_by_nobody s u n r) t = absurd (refuses_no_decimal refusal.Nobody (ap (λ a. shown_answer a digits) r))
           go (answered s u n r) (holds t) =
               let exists = weighted_exists index (divided_by l index level set) n in
               let low = (lowest_lowest formula.top formula.bottom (omega arith)).exists in
-              absurd (refuses_no_decimal 18 (ap (λ a. shown_answer a digits) r ∙ too_many_18 lowest digits low (ltb-true _ _ t)))
+              absurd (refuses_no_decimal refusal.Digits (ap (λ a. shown_answer a digits) r ∙ too_many_18 lowest digits low (ltb-true _ _ t)))
           go (answered s u n r) (fails t) =
               let exists = weighted_exists index (divided_by l index level set) n in
               let low = (lowest_lowest formula.top formula.bottom (omega arith)).exists in
               let few : digits ≤ 6 = ltb-false _ _ t in
-              let is : shown.Is (decimal_of lowest digits) ≡ shown.Is d = sym (else_shown lowest digits low few) ∙ sym (ap (λ a. shown_answer a digits) r) ∙ e in
+              let is : Ok (decimal_of lowest digits) ≡ Ok d = sym (else_shown lowest digits low few) ∙ sym (ap (λ a. shown_answer a digits) r) ∙ e in
               let same : decimal_of lowest digits ≡ d = cc in
               rounded_formula few exists (sym (lowest_decimal formula.top formula.bottom digits (omega arith)) ∙ same)
 

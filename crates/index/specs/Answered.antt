@@ -1,6 +1,8 @@
 -- The ways in which an index is answered, and what an answer that is a fraction or a decimal says (01, "Indices": "Lowest terms, zero as 0/1"; "rounded
 -- to nearest, a tie upward").
-use Rattle.std.specs.Prelude.{ℕ, ◌+◌, ◌*◌, ◌^◌, ◌<◌, ◌≤◌, ◌≡◌, true, false}
+use Rattle.std.specs.Prelude.{ℕ, ◌+◌, ◌*◌, ◌^◌, ◌<◌, ◌≤◌, ◌≡◌, true, false, Result, Ok, Err}
+use Rattle.refusals.specs.declared.Refusal.{Refusal}
+use Rattle.refusals.specs.declared.Refusal.TheVariants as refusal
 use Rattle.ratio.specs.declared.Fraction.{Fraction}
 use Rattle.ratio.specs.Fraction.{Same}
 use Rattle.ratio.specs.Lowest.{Lowest, lowest_of}
@@ -11,20 +13,18 @@ use Rattle.ledger.specs.declared.Ledger.{Ledger}
 use Rattle.ledger.specs.Sound.{sound_ledger}
 use Rattle.index.specs.declared.Level.{Level}
 use Rattle.index.specs.declared.Index.{Index}
-use Rattle.index.specs.declared.Answer.{Answer}
-use Rattle.index.specs.declared.Answer.TheVariants.{Is, Refused}
 use Rattle.index.specs.Index.{formula_of, divided_by}
 
 module _ (l : Ledger) (index : Index) (level : Level) (set : Set) where
-  pub data Way (a : Answer) : Type 0 where
-    unsound : sound_ledger l ≡ false → a ≡ Refused 1 → Way a
-    sheetless : sound_ledger l ≡ true → l.sheet.there ≡ false → a ≡ Refused 5 → Way a
-    divides_by_nobody : sound_ledger l ≡ true → l.sheet.there ≡ true → divided_by l index level set ≡ 0 → a ≡ Refused 17 → Way a
+  pub data Way (a : Result Fraction Refusal) : Type 0 where
+    unsound : sound_ledger l ≡ false → a ≡ Err refusal.Unsound → Way a
+    sheetless : sound_ledger l ≡ true → l.sheet.there ≡ false → a ≡ Err refusal.Sheet → Way a
+    divides_by_nobody : sound_ledger l ≡ true → l.sheet.there ≡ true → divided_by l index level set ≡ 0 → a ≡ Err refusal.Nobody → Way a
     answered :
         sound_ledger l ≡ true →
         l.sheet.there ≡ true →
         (divided_by l index level set ≡ 0 → ⊥) →
-        a ≡ Is (lowest_of (formula_of l index level set).top (formula_of l index level set).bottom) →
+        a ≡ Ok (lowest_of (formula_of l index level set).top (formula_of l index level set).bottom) →
         Way a
 
 -- what an answer that is a fraction says of the ledger

@@ -1,10 +1,12 @@
 -- "SAIFI = customers / N; SAIDI = half minutes / (2N); CAIDI = half minutes / (2 x customers)" (01, "Indices"; 003, 4.3.1 and 4.3.2).
-use Rattle.std.specs.Prelude.{ℕ, ◌*◌, List, [], ◌∷◌, ◌++◌, not, cond, ltb, eqb}
-use Rattle.base.specs.First.{Rule, first}
+use Rattle.std.specs.Prelude.{ℕ, ◌*◌, List, [], ◌∷◌, ◌++◌, not, cond, ltb, eqb, Result, Ok, Err}
+use Rattle.base.specs.First.{Rule}
+use Rattle.refusals.specs.declared.Refusal.{Refusal}
+use Rattle.refusals.specs.declared.Refusal.TheVariants as refusal
+use Rattle.refusals.specs.Refusals.{number_of}
 use Rattle.ratio.specs.declared.Fraction.{Fraction}
 use Rattle.ratio.specs.Lowest.{lowest_of}
-use Rattle.decimal.specs.declared.Shown.{Shown}
-use Rattle.decimal.specs.declared.Shown.TheVariants as shown
+use Rattle.decimal.specs.declared.Decimal.{Decimal}
 use Rattle.decimal.specs.Decimal.{decimal_of, shown_of, numbers_by}
 use Rattle.codes.specs.declared.Set.{Set}
 use Rattle.annex.specs.Figure.{Figure, Off, Halves}
@@ -15,8 +17,6 @@ use Rattle.ledger.specs.Sound.{sound_ledger}
 use Rattle.index.specs.declared.Level.{Level}
 use Rattle.index.specs.declared.Index.{Index}
 use Rattle.index.specs.declared.Index.TheVariants.{Saifi, Saidi, Caidi}
-use Rattle.index.specs.declared.Answer.{Answer}
-use Rattle.index.specs.declared.Answer.TheVariants.{Is, Refused}
 use Rattle.index.specs.Sums.{total_of, customers_of}
 
 -- the figure above the line
@@ -56,19 +56,18 @@ index_rules l index level set = (1, not (sound_ledger l)) ∷ (5, not l.sheet.th
 abbrev pub decimal_rules : Ledger → Index → Level → Set → ℕ → List Rule
 decimal_rules l index level set digits = index_rules l index level set ++ ((18, ltb 6 digits) ∷ [])
 
--- an answer by its rules
-abbrev pub answered_by : List Rule → Fraction → Answer
-answered_by rules f = cond (eqb (first rules) 0) (Is f) (Refused (first rules))
-
--- 01's formula in lowest terms
-unfoldable pub index_of : Ledger → Index → Level → Set → Answer
+-- 01's formula in lowest terms: 1 comes before 5, and 5 before 17
+unfoldable pub index_of : Ledger → Index → Level → Set → Result Fraction Refusal
 index_of l index level set =
-    answered_by (index_rules l index level set) (lowest_of (formula_of l index level set).top (formula_of l index level set).bottom)
+    cond (not (sound_ledger l)) (Err refusal.Unsound)
+    (cond (not l.sheet.there) (Err refusal.Sheet)
+    (cond (eqb (divided_by l index level set) 0) (Err refusal.Nobody)
+    (Ok (lowest_of (formula_of l index level set).top (formula_of l index level set).bottom))))
 
 -- the answer in 01's numbers: 0, top and bottom; or the refusal
-abbrev pub exactly : Answer → List ℕ
-exactly (Is f) = 0 ∷ f.top ∷ f.bottom ∷ []
-exactly (Refused n) = n ∷ []
+abbrev pub exactly : Result Fraction Refusal → List ℕ
+exactly (Ok f) = 0 ∷ f.top ∷ f.bottom ∷ []
+exactly (Err r) = number_of r ∷ []
 
 -- an index in 01's numbers
 unfoldable pub index_numbers : Ledger → Index → Level → Set → List ℕ
@@ -83,9 +82,9 @@ decimal_numbers l index level set digits =
     numbers_by (decimal_rules l index level set digits) (d.whole ∷ d.digits ∷ [])
 
 -- a decimal of an answer; the refusals of the index come first
-abbrev pub shown_answer : Answer → ℕ → Shown
-shown_answer (Is f) digits = shown_of f digits
-shown_answer (Refused n) digits = shown.Refused n
+abbrev pub shown_answer : Result Fraction Refusal → ℕ → Result Decimal Refusal
+shown_answer (Ok f) digits = shown_of f digits
+shown_answer (Err r) digits = Err r
 
-abbrev pub shown_index : Ledger → Index → Level → Set → ℕ → Shown
+abbrev pub shown_index : Ledger → Index → Level → Set → ℕ → Result Decimal Refusal
 shown_index l index level set digits = shown_answer (index_of l index level set) digits

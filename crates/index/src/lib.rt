@@ -10,9 +10,10 @@ ghost use Rattle.index.specs.Index.{top_of, divisor_of, weight_of, exactly, inde
 
 use annex::{Customers, HalfMinutes};
 use codes::{LEVELS, NO_ROW, ROWS, Set};
-use decimal::Shown;
+use decimal::Decimal;
 use ledger::{Cell, Ledger, TypeRow};
 use ratio::Fraction;
+use refusals::Refusal;
 
 // A voltage level, or the whole network.
 #[derive(Clone, Copy)]
@@ -28,13 +29,6 @@ pub enum Index {
     Saifi,
     Saidi,
     Caidi,
-}
-
-// An exact fraction, or the number of a refusal.
-#[derive(Clone, Copy)]
-pub enum Answer {
-    Is(Fraction),
-    Refused(u8),
 }
 
 // Two sums, customers to customers and half minutes to half minutes.
@@ -70,13 +64,9 @@ fn level_sum(rows: [TypeRow; ROWS], level: usize, set: Set) -> Cell
         customers: Customers(0),
         halves: HalfMinutes(0),
     };
-    let mut row: u8 = 0;
-    while row < NO_ROW {
-        let at = row as usize;
-        let held = rows[at];
-        let cells = held.levels;
-        sum = plus(sum, held_or(codes::holds_row(set, row), cells[level]));
-        row += 1;
+    for row in 0..NO_ROW {
+        let held = codes::holds_row(set, row);
+        sum = plus(sum, held_or(held, rows[row as usize].levels[level]));
     }
     sum
 }
@@ -97,22 +87,15 @@ fn total_of(rows: [TypeRow; ROWS], level: Level, set: Set) -> Cell
     }
 }
 
-// A number of customers, with the bound that its type sets.
-fn wide(x: u32) -> u64
-    ensures { (result ≡ x) × (result ≤ 4294967295) }
-{
-    x as u64
-}
-
 // The customers served on a level or in the network: N.
 fn served(totals: [u32; LEVELS], level: Level) -> u64
     ensures { (result ≡ customers_of totals level) × (result ≤ 12884901885) }
 {
     match level {
-        Level::NN => wide(totals[0]),
-        Level::VN => wide(totals[1]),
-        Level::VVN => wide(totals[2]),
-        Level::Network => wide(totals[0]) + wide(totals[1]) + wide(totals[2]),
+        Level::NN => u64::from(totals[0]),
+        Level::VN => u64::from(totals[1]),
+        Level::VVN => u64::from(totals[2]),
+        Level::Network => u64::from(totals[0]) + u64::from(totals[1]) + u64::from(totals[2]),
     }
 }
 
@@ -150,32 +133,32 @@ fn weight(index: Index) -> u64
 }
 
 // An index as an exact fraction in lowest terms: 1 for an unsound ledger, 5 without a sheet, 17 where it divides by nobody.
-pub fn index_of(ledger: Ledger, index: Index, level: Level, set: Set) -> Answer
+pub fn index_of(ledger: Ledger, index: Index, level: Level, set: Set) -> Result<Fraction, Refusal>
     ensures { exactly result ≡ index_numbers ledger index level set }
 {
     if !ledger.sound() {
-        return Answer::Refused(1);
+        return Err(Refusal::Unsound);
     }
-    let sheet = ledger.sheet;
-    if !sheet.there {
-        return Answer::Refused(5);
+    if !ledger.sheet.there {
+        return Err(Refusal::Sheet);
     }
-    let rows = ledger.rows;
-    let totals = sheet.totals;
-    let sum = total_of(rows, level, set);
-    let d = divisor(index, sum, served(totals, level));
+    let sum = total_of(ledger.rows, level, set);
+    let d = divisor(index, sum, served(ledger.sheet.totals, level));
     if d == 0 {
-        return Answer::Refused(17);
+        return Err(Refusal::Nobody);
     }
-    Answer::Is(ratio::lowest(top(index, sum), weight(index) * d))
+    Ok(ratio::lowest(top(index, sum), weight(index) * d))
 }
 
 // The same with so many digits after the point: 18 for more than 6, after 1, 5 and 17.
-pub fn decimal_of(ledger: Ledger, index: Index, level: Level, set: Set, digits: u8) -> Shown
+pub fn decimal_of(
+    ledger: Ledger,
+    index: Index,
+    level: Level,
+    set: Set,
+    digits: u8,
+) -> Result<Decimal, Refusal>
     ensures { decimally result ≡ decimal_numbers ledger index level set digits }
 {
-    match index_of(ledger, index, level, set) {
-        Answer::Is(f) => decimal::decimal_of(f, digits),
-        Answer::Refused(n) => Shown::Refused(n),
-    }
+    decimal::decimal_of(index_of(ledger, index, level, set)?, digits)
 }

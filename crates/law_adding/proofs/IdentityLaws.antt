@@ -1,13 +1,16 @@
 -- CAIDI times SAIFI is SAIDI in every book's ledger, where SAIFI and CAIDI both exist; where one of them does not, it is refused with 5 or 17, and never
 -- with 1. Assumes nothing.
 use Prim.Native.Nat.{ℕ}
-use mathlib.Core.Path.{◌≡◌, sym, ◌∙◌}
+use Rattle.std.specs.Prelude.{Ok, Err}
+use mathlib.Core.Path.{◌≡◌, sym, ap, ◌∙◌}
 use mathlib.Core.List.{List}
 use mathlib.Core.Bool.{true, true≢false}
 use lib.Dec.{eqb}
 use native.Mathlib.Omega.{arith}
 use borrow.Author.Tests.{eqb-true, eqb-false}
 use Rattle.base.proofs.TestLaws.{Tested, holds, fails, test}
+use Rattle.refusals.specs.declared.Refusal.TheVariants as refusal
+use Rattle.refusals.specs.Refusals.{number_of}
 use Rattle.ratio.specs.declared.Fraction.{Fraction}
 use Rattle.codes.specs.declared.Set.{Set}
 use Rattle.annex.specs.Figure.{Off}
@@ -17,7 +20,6 @@ use Rattle.law_sums.specs.Theorem.{book_ledger}
 use Rattle.index.specs.declared.Level.{Level}
 use Rattle.index.specs.declared.Index.{Index}
 use Rattle.index.specs.declared.Index.TheVariants.{Saifi, Saidi, Caidi}
-use Rattle.index.specs.declared.Answer.TheVariants.{Is, Refused}
 use Rattle.index.specs.Sums.{customers_of}
 use Rattle.index.specs.Index.{index_of}
 use Rattle.index.specs.Answered.{Way, unsound, sheetless, divides_by_nobody, answered}
@@ -29,7 +31,7 @@ use Rattle.law_adding.proofs.BookLaws.{book_sound}
 module _ (l : Ledger) (level : Level) (set : Set) where
   -- in any ledger: where SAIFI and CAIDI exist, SAIDI does, and is their product
   pub multiplies :
-      (saifi caidi : Fraction) → index_of l Saifi level set ≡ Is saifi → index_of l Caidi level set ≡ Is caidi → Multiplies l level set saifi caidi
+      (saifi caidi : Fraction) → index_of l Saifi level set ≡ Ok saifi → index_of l Caidi level set ≡ Ok caidi → Multiplies l level set saifi caidi
   multiplies saifi caidi p q =
       let found = caidi_times_saifi l level set saifi caidi p q in
       record { saidi = found.0; is_saidi = found.1; same = found.2 }
@@ -69,8 +71,8 @@ module _ (l : Ledger) (level : Level) (set : Set) where
 module _ (book : List ℕ) (level : Level) (set : Set) where
   pub book_multiplies :
       (saifi caidi : Fraction) →
-      index_of (book_ledger book) Saifi level set ≡ Is saifi →
-      index_of (book_ledger book) Caidi level set ≡ Is caidi →
+      index_of (book_ledger book) Saifi level set ≡ Ok saifi →
+      index_of (book_ledger book) Caidi level set ≡ Ok caidi →
       Multiplies (book_ledger book) level set saifi caidi
   book_multiplies = multiplies (book_ledger book) level set
 
@@ -78,11 +80,11 @@ module _ (book : List ℕ) (level : Level) (set : Set) where
   book_identity = identity (book_ledger book) level set (book_sound book)
 
   -- refusal 1 does not arise
-  pub never_unsound : (index : Index) → index_of (book_ledger book) index level set ≡ Refused 1 → ⊥
+  pub never_unsound : (index : Index) → index_of (book_ledger book) index level set ≡ Err refusal.Unsound → ⊥
   never_unsound index e = go (index_exactly (book_ledger book) index level set)
     where
       go : Way (book_ledger book) index level set (index_of (book_ledger book) index level set) → ⊥
       go (unsound s r) = true≢false (sym (book_sound book) ∙ s)
-      go (sheetless s t r) = let z : ◌≡◌ {A = ℕ} 5 1 = cc in omega arith
-      go (divides_by_nobody s t n r) = let z : ◌≡◌ {A = ℕ} 17 1 = cc in omega arith
+      go (sheetless s t r) = let z : refusal.Sheet ≡ refusal.Unsound = cc in let n : ◌≡◌ {A = ℕ} 5 1 = ap number_of z in omega arith
+      go (divides_by_nobody s t n r) = let z : refusal.Nobody ≡ refusal.Unsound = cc in let n : ◌≡◌ {A = ℕ} 17 1 = ap number_of z in omega arith
       go (answered s t n r) = let z : ◌≡◌ {A = ℕ} 0 1 = cc in omega arith

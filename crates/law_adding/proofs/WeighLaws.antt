@@ -1,6 +1,7 @@
 -- The levels' indices weighed by their N add up to the network's: an index times its N is the sum above its line, over 1 or 2, and these sums add.
 -- Assumes nothing.
 use Prim.Native.Nat.{ℕ, ◌*◌, ◌<◌}
+use Rattle.std.specs.Prelude.{Result, Ok, Err}
 use mathlib.Core.Path.{◌≡◌, refl, sym, ap, subst, ◌∙◌}
 use mathlib.Core.List.{map}
 use mathlib.Core.Bool.{true}
@@ -10,6 +11,8 @@ use native.Mathlib.Omega.{arith}
 use borrow.Author.Tests.{eqb-true, eqb-false}
 use Rattle.base.specs.Lists.{sum}
 use Rattle.base.proofs.TestLaws.{Tested, holds, fails, test}
+use Rattle.refusals.specs.declared.Refusal.{Refusal}
+use Rattle.refusals.specs.declared.Refusal.TheVariants as refusal
 use Rattle.ratio.specs.declared.Fraction.{Fraction}
 use Rattle.ratio.specs.Fraction.{Same, times}
 use Rattle.ratio.specs.Lowest.{lowest_of}
@@ -23,8 +26,6 @@ use Rattle.index.specs.declared.Level.{Level}
 use Rattle.index.specs.declared.Level.TheVariants.{Network}
 use Rattle.index.specs.declared.Index.{Index}
 use Rattle.index.specs.declared.Index.TheVariants.{Saifi, Saidi}
-use Rattle.index.specs.declared.Answer.{Answer}
-use Rattle.index.specs.declared.Answer.TheVariants.{Is, Refused}
 use Rattle.index.specs.Sums.{customers_of}
 use Rattle.index.specs.Index.{above_of, divisor_of, weight_of, index_of}
 use Rattle.index.proofs.IndexLaws.{nobody_refused, somebody_answered}
@@ -43,9 +44,9 @@ module _ (w : ℕ) (exists : w ≡ 0 → ⊥) where
 
   -- an answer times N: with an N of 0 there is no index, and nothing above the line
   share :
-      (a : Answer) (top n : ℕ) →
-      ((n ≡ 0 → ⊥) → a ≡ Is (lowest_of top (w * n))) →
-      (n ≡ 0 → (a ≡ Refused 17) × (top ≡ 0)) →
+      (a : Result Fraction Refusal) (top n : ℕ) →
+      ((n ≡ 0 → ⊥) → a ≡ Ok (lowest_of top (w * n))) →
+      (n ≡ 0 → (a ≡ Err refusal.Nobody) × (top ≡ 0)) →
       Same (times_n a n) (over_n w exists top)
   share a top n some none = go (test (eqb n 0))
     where
@@ -54,9 +55,9 @@ module _ (w : ℕ) (exists : w ≡ 0 → ⊥) where
       go (fails e) = rw (some (eqb-false n 0 e)) (served_share top n)
 
   share_exists :
-      (a : Answer) (top n : ℕ) →
-      ((n ≡ 0 → ⊥) → a ≡ Is (lowest_of top (w * n))) →
-      (n ≡ 0 → (a ≡ Refused 17) × (top ≡ 0)) →
+      (a : Result Fraction Refusal) (top n : ℕ) →
+      ((n ≡ 0 → ⊥) → a ≡ Ok (lowest_of top (w * n))) →
+      (n ≡ 0 → (a ≡ Err refusal.Nobody) × (top ≡ 0)) →
       (times_n a n).bottom ≡ 0 →
       ⊥
   share_exists a top n some none = go (test (eqb n 0))
@@ -70,9 +71,9 @@ module _ (w : ℕ) (exists : w ≡ 0 → ⊥) where
 
   -- the shares of the levels have a sum, and it is the network's, where the sums above the line add
   all_shares :
-      (answer : Level → Answer) (top n : Level → ℕ) →
-      ((h : Level) → (n h ≡ 0 → ⊥) → answer h ≡ Is (lowest_of (top h) (w * n h))) →
-      ((h : Level) → n h ≡ 0 → (answer h ≡ Refused 17) × (top h ≡ 0)) →
+      (answer : Level → Result Fraction Refusal) (top n : Level → ℕ) →
+      ((h : Level) → (n h ≡ 0 → ⊥) → answer h ≡ Ok (lowest_of (top h) (w * n h))) →
+      ((h : Level) → n h ≡ 0 → (answer h ≡ Err refusal.Nobody) × (top h ≡ 0)) →
       top Network ≡ sum (map top each_level) →
       ((over_each (λ (h : Level). times_n (answer h) (n h))).bottom ≡ 0 → ⊥) ×
       Same (times_n (answer Network) (n Network)) (over_each (λ (h : Level). times_n (answer h) (n h)))
@@ -107,10 +108,10 @@ module _
       abbrev top : Level → ℕ
       top h = total_held (above_of index) l h set
 
-      answered : (h : Level) → (n h ≡ 0 → ⊥) → index_of l index h set ≡ Is (lowest_of (top h) (weight_of index * n h))
+      answered : (h : Level) → (n h ≡ 0 → ⊥) → index_of l index h set ≡ Ok (lowest_of (top h) (weight_of index * n h))
       answered h some =
           somebody_answered l index h set sound there (λ z. some (sym (by_n _ (n h)) ∙ z)) ∙
-          ap (λ (d : ℕ). Is (lowest_of (top h) (weight_of index * d))) (by_n _ (n h))
+          ap (λ (d : ℕ). Ok (lowest_of (top h) (weight_of index * d))) (by_n _ (n h))
 
       levels_weigh : LevelsWeigh l index set
       levels_weigh =

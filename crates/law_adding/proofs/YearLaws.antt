@@ -1,6 +1,7 @@
 -- The worked year (003, 10.2; 01, "Worked year") meets what the theorems ask, and its figures are not 0; there CAIDI does not add. All of it is computed
 -- from the year's bytes. Assumes nothing.
 use Prim.Native.Nat.{ℕ, ◌-◌}
+use Rattle.std.specs.Prelude.{Ok}
 use mathlib.Core.Path.{◌≡◌, refl, sym, subst}
 use mathlib.Core.List.{List, [], ◌∷◌, ◌++◌, map}
 use mathlib.Core.Bool.{true}
@@ -35,7 +36,6 @@ use Rattle.index.specs.declared.Level.{Level}
 use Rattle.index.specs.declared.Level.TheVariants.{NN, VN, VVN, Network}
 use Rattle.index.specs.declared.Index.{Index}
 use Rattle.index.specs.declared.Index.TheVariants.{Saifi, Saidi, Caidi}
-use Rattle.index.specs.declared.Answer.TheVariants.{Is}
 use Rattle.index.specs.Sums.{level_sum, customers_of}
 use Rattle.index.specs.Index.{index_of, exactly}
 use Rattle.worked.specs.Worked.{year, sheet105, example105}
@@ -106,23 +106,23 @@ over top bottom = record { top = top; bottom = bottom }
 
 -- SAIFI and SAIDI of the network under 'all' and 'std', and of the types that 'std' leaves out alone: 1007/337 = 670/337 + 1011/1011, and so on
 pub year_saifi :
-    (index_of (book_ledger year) Saifi Network All ≡ Is (over 1007 337)) ×
-    (index_of (book_ledger year) Saifi Network Std ≡ Is (over 670 337)) ×
+    (index_of (book_ledger year) Saifi Network All ≡ Ok (over 1007 337)) ×
+    (index_of (book_ledger year) Saifi Network Std ≡ Ok (over 670 337)) ×
     (alone_of (book_ledger year) Saifi Network rest ≡ over 1011 1011)
 unfolding euclid gcd_of lowest_of row_of row_held sound_ledger level_sum index_of
 year_saifi = (rw year_is, rw year_is, rw year_is)
 
 pub year_saidi :
-    (index_of (book_ledger year) Saidi Network All ≡ Is (over 79294 1011)) ×
-    (index_of (book_ledger year) Saidi Network Std ≡ Is (over 75250 1011)) ×
+    (index_of (book_ledger year) Saidi Network All ≡ Ok (over 79294 1011)) ×
+    (index_of (book_ledger year) Saidi Network Std ≡ Ok (over 75250 1011)) ×
     (alone_of (book_ledger year) Saidi Network rest ≡ over 8088 2022)
 unfolding euclid gcd_of lowest_of row_of row_held sound_ledger level_sum index_of
 year_saidi = (rw year_is, rw year_is, rw year_is)
 
 -- CAIDI of the network: 79294/3021, 7525/201 and 8088/2022, which is 4. The first is not the sum of the others
 pub year_caidi :
-    (index_of (book_ledger year) Caidi Network All ≡ Is (over 79294 3021)) ×
-    (index_of (book_ledger year) Caidi Network Std ≡ Is (over 7525 201)) ×
+    (index_of (book_ledger year) Caidi Network All ≡ Ok (over 79294 3021)) ×
+    (index_of (book_ledger year) Caidi Network Std ≡ Ok (over 7525 201)) ×
     (alone_of (book_ledger year) Caidi Network rest ≡ over 8088 2022)
 unfolding euclid gcd_of lowest_of row_of row_held sound_ledger level_sum index_of
 year_caidi = (rw year_is, rw year_is, rw year_is)

@@ -1,6 +1,7 @@
 -- Levels and event types add up to the network, and CAIDI times SAIFI is SAIDI wherever SAIFI and CAIDI both exist: of the ledger of an accepted
 -- book, of the book's events (003, 4.3.2), and of the exact fractions. CAIDI does not add.
-use Rattle.std.specs.Prelude.{ℕ, ◌+◌, ◌≡◌, List, [], ◌∷◌, map, true, false}
+use Rattle.std.specs.Prelude.{ℕ, ◌+◌, ◌≡◌, List, [], ◌∷◌, map, true, false, Ok, Err}
+use Rattle.refusals.specs.declared.Refusal.TheVariants as refusal
 use Rattle.ratio.specs.declared.Fraction.{Fraction}
 use Rattle.ratio.specs.Fraction.{plus, product, Same}
 use Rattle.codes.specs.declared.Set.{Set}
@@ -14,7 +15,6 @@ use Rattle.index.specs.declared.Level.{Level}
 use Rattle.index.specs.declared.Level.TheVariants.{Network}
 use Rattle.index.specs.declared.Index.{Index}
 use Rattle.index.specs.declared.Index.TheVariants.{Saifi, Saidi, Caidi}
-use Rattle.index.specs.declared.Answer.TheVariants.{Is, Refused}
 use Rattle.index.specs.Sums.{total_of, customers_of}
 use Rattle.index.specs.Index.{formula_of, index_of}
 use Rattle.law_adding.specs.Parts.{over_levels, types_in, rest, each_once, events_hold, types_hold, alone_of, plus_all, over_each, share_of}
@@ -49,8 +49,8 @@ TotalsAre book level set = (x : Figure) → total_held x (book_ledger book) leve
 pub record IndexAdds (l : Ledger) (index : Index) (level : Level) : Type 0 where
   pub all : Fraction
   pub std : Fraction
-  pub is_all : index_of l index level All ≡ Is all
-  pub is_std : index_of l index level Std ≡ Is std
+  pub is_all : index_of l index level All ≡ Ok all
+  pub is_std : index_of l index level Std ≡ Ok std
   pub over_one_n : (ts : List ℕ) (set : Set) → (alone_of l index level ts).bottom ≡ (formula_of l index level set).bottom
   pub exists : (ts : List ℕ) → (alone_of l index level ts).bottom ≡ 0 → ⊥
   pub rest_adds : Same all (plus std (alone_of l index level rest))
@@ -64,9 +64,9 @@ NobodyOff l level set = (x : Figure) → total_held x l level set ≡ 0
 -- index, and so has each level with customers
 pub record LevelsWeigh (l : Ledger) (index : Index) (set : Set) : Type 0 where
   pub network : Fraction
-  pub is_network : index_of l index Network set ≡ Is network
+  pub is_network : index_of l index Network set ≡ Ok network
   pub of_level : Level → Fraction
-  pub is_level : (level : Level) → (customers_of l.sheet.totals level ≡ 0 → ⊥) → index_of l index level set ≡ Is (of_level level)
+  pub is_level : (level : Level) → (customers_of l.sheet.totals level ≡ 0 → ⊥) → index_of l index level set ≡ Ok (of_level level)
   pub exists : (over_each (share_of l index set)).bottom ≡ 0 → ⊥
   pub shares_add : Same (share_of l index set Network) (over_each (share_of l index set))
 
@@ -87,38 +87,38 @@ pub record AddsUp (book : List ℕ) : Type 0 where
 pub record CaidiApart (l : Ledger) (level : Level) : Type 0 where
   pub all : Fraction
   pub std : Fraction
-  pub is_all : index_of l Caidi level All ≡ Is all
-  pub is_std : index_of l Caidi level Std ≡ Is std
+  pub is_all : index_of l Caidi level All ≡ Ok all
+  pub is_std : index_of l Caidi level Std ≡ Ok std
   pub exists : (alone_of l Caidi level rest).bottom ≡ 0 → ⊥
   pub apart : Same all (plus std (alone_of l Caidi level rest)) → ⊥
 
 -- how SAIFI, SAIDI and CAIDI of a level or the network and a set are answered together: without a sheet each is 5, with nobody served SAIFI and SAIDI
 -- are 17, with nobody interrupted CAIDI is 17; otherwise all three exist, and CAIDI times SAIFI is SAIDI
 pub data Identity (l : Ledger) (level : Level) (set : Set) : Type 0 where
-  sheetless : l.sheet.there ≡ false → ((index : Index) → index_of l index level set ≡ Refused 5) → Identity l level set
+  sheetless : l.sheet.there ≡ false → ((index : Index) → index_of l index level set ≡ Err refusal.Sheet) → Identity l level set
   none_served :
       l.sheet.there ≡ true →
       customers_of l.sheet.totals level ≡ 0 →
-      index_of l Saifi level set ≡ Refused 17 →
-      index_of l Saidi level set ≡ Refused 17 →
+      index_of l Saifi level set ≡ Err refusal.Nobody →
+      index_of l Saidi level set ≡ Err refusal.Nobody →
       Identity l level set
   none_interrupted :
       l.sheet.there ≡ true →
       total_held Off l level set ≡ 0 →
-      index_of l Caidi level set ≡ Refused 17 →
+      index_of l Caidi level set ≡ Err refusal.Nobody →
       Identity l level set
   multiplied :
       (customers_of l.sheet.totals level ≡ 0 → ⊥) →
       (total_held Off l level set ≡ 0 → ⊥) →
       (saifi saidi caidi : Fraction) →
-      index_of l Saifi level set ≡ Is saifi →
-      index_of l Saidi level set ≡ Is saidi →
-      index_of l Caidi level set ≡ Is caidi →
+      index_of l Saifi level set ≡ Ok saifi →
+      index_of l Saidi level set ≡ Ok saidi →
+      index_of l Caidi level set ≡ Ok caidi →
       Same (product caidi saifi) saidi →
       Identity l level set
 
 -- wherever SAIFI and CAIDI both exist
 pub record Multiplies (l : Ledger) (level : Level) (set : Set) (saifi caidi : Fraction) : Type 0 where
   pub saidi : Fraction
-  pub is_saidi : index_of l Saidi level set ≡ Is saidi
+  pub is_saidi : index_of l Saidi level set ≡ Ok saidi
   pub same : Same (product caidi saifi) saidi

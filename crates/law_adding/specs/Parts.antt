@@ -1,7 +1,8 @@
 -- The parts that are added: levels, event types, and the events of a book, with 003's sums over them (4.3.1 of a level, 4.3.2 of the network) and
 -- the same figures as a ledger's cells have them.
-use Rattle.std.specs.Prelude.{ℕ, ◌+◌, ◌*◌, List, [], ◌∷◌, map, Bool, true, ◌&&◌, not, ltb}
+use Rattle.std.specs.Prelude.{ℕ, ◌+◌, ◌*◌, List, [], ◌∷◌, map, Bool, true, ◌&&◌, not, ltb, Result, Ok, Err}
 use Rattle.base.specs.Lists.{sum, keep, listed}
+use Rattle.refusals.specs.declared.Refusal.{Refusal}
 use Rattle.ratio.specs.declared.Fraction.{Fraction}
 use Rattle.ratio.specs.Fraction.{whole, plus, times}
 use Rattle.codes.specs.declared.Set.{Set}
@@ -17,8 +18,6 @@ use Rattle.law_sums.specs.Accepted.{event_in}
 use Rattle.index.specs.declared.Level.{Level}
 use Rattle.index.specs.declared.Level.TheVariants.{NN, VN, VVN, Network}
 use Rattle.index.specs.declared.Index.{Index}
-use Rattle.index.specs.declared.Answer.{Answer}
-use Rattle.index.specs.declared.Answer.TheVariants.{Is, Refused}
 use Rattle.index.specs.Sums.{customers_of}
 use Rattle.index.specs.Index.{top_of, divisor_of, weight_of, index_of}
 
@@ -93,9 +92,9 @@ abbrev pub over_each : (Level → Fraction) → Fraction
 over_each f = plus_all (map f each_level)
 
 -- an index times N; an index that is refused, as with an N of 0, adds nothing
-abbrev pub times_n : Answer → ℕ → Fraction
-times_n (Is f) n = times f n
-times_n (Refused r) n = whole 0
+abbrev pub times_n : Result Fraction Refusal → ℕ → Fraction
+times_n (Ok f) n = times f n
+times_n (Err r) n = whole 0
 
 -- an index of a level, or of the network, times its N
 abbrev pub share_of : Ledger → Index → Set → Level → Fraction

@@ -1,6 +1,7 @@
 -- The theorem *each index is that formula's exact fraction in lowest terms*, of an accepted book: it has no bytes, or a sheet and events; then 01's
 -- formula over its ledger is the annex's fraction. Assumes nothing.
 use Prim.Native.Nat.{ℕ, ◌+◌, ◌*◌, ◌^◌}
+use Rattle.std.specs.Prelude.{Result, Ok, Err}
 use mathlib.Core.Path.{◌≡◌, refl, sym, ap, subst, ◌∙◌}
 use mathlib.Core.List.{List, [], ◌∷◌}
 use mathlib.Core.Bool.{true, false}
@@ -11,11 +12,13 @@ use native.Mathlib.Nat.{mul-zero}
 use borrow.Author.Tests.{eqb-true, eqb-false}
 use Rattle.base.proofs.TestLaws.{Tested, holds, fails, test}
 use Rattle.wire.specs.Cut.{cut_in, records_of}
+use Rattle.refusals.specs.declared.Refusal.{Refusal}
+use Rattle.refusals.specs.declared.Refusal.TheVariants as refusal
+use Rattle.refusals.specs.Refusals.{number_of}
 use Rattle.ratio.specs.declared.Fraction.{Fraction}
 use Rattle.ratio.specs.Fraction.{Same}
 use Rattle.ratio.specs.Lowest.{lowest_of}
 use Rattle.decimal.specs.declared.Decimal.{Decimal}
-use Rattle.decimal.specs.declared.Shown.TheVariants as shown
 use Rattle.decimal.specs.Decimal.{Nearest, decimal_of}
 use Rattle.decimal.proofs.RoundLaws.{else_shown}
 use Rattle.codes.specs.declared.Set.{Set}
@@ -24,8 +27,6 @@ use Rattle.law_sums.specs.Accepted.{Accepted}
 use Rattle.law_sums.specs.Theorem.{book_ledger}
 use Rattle.index.specs.declared.Level.{Level}
 use Rattle.index.specs.declared.Index.{Index}
-use Rattle.index.specs.declared.Answer.{Answer}
-use Rattle.index.specs.declared.Answer.TheVariants.{Is, Refused}
 use Rattle.index.specs.Index.{weight_of, divided_by, formula_of, shown_answer, shown_index}
 use Rattle.index.proofs.IndexLaws.{weighted_exists, sheetless_refused, nobody_refused, somebody_answered, index_exact}
 use Rattle.index.proofs.NumberLaws.{decimal_nearest}
@@ -35,10 +36,10 @@ use Rattle.law_index.specs.Formulas.{annex_fraction}
 use Rattle.law_index.specs.Theorem.{answer_for, IsAnnex, EndToEnd, NearAnnex, DecimalToEnd}
 use Rattle.law_index.proofs.FormulaLaws.{ledger_sheet, formula_is}
 
-same_number : (m n : ℕ) → Refused m ≡ Refused n → m ≡ n
-same_number m n e = cc
+same_number : (m n : Refusal) → ◌≡◌ {A = Result Fraction Refusal} (Err m) (Err n) → number_of m ≡ number_of n
+same_number m n e = let same : m ≡ n = cc in ap number_of same
 
-no_number : (n : ℕ) (f : Fraction) → Is f ≡ Refused n → ⊥
+no_number : (n : Refusal) (f : Fraction) → ◌≡◌ {A = Result Fraction Refusal} (Ok f) (Err n) → ⊥
 no_number n f e = let z : ◌≡◌ {A = ℕ} 0 1 = cc in omega arith
 
 no_records : records_of [] ≡ []
@@ -50,7 +51,7 @@ unfolding cut_in records_of
 no_sheet_lem = refl
 
 module _ (book : List ℕ) (index : Index) (level : Level) (set : Set) where
-  abbrev answer : Answer
+  abbrev answer : Result Fraction Refusal
   answer = answer_for book index level set
 
   abbrev below : ℕ
@@ -59,30 +60,30 @@ module _ (book : List ℕ) (index : Index) (level : Level) (set : Set) where
   -- without bytes there is no sheet
   none : book ≡ [] → EndToEnd book index level set
   none e =
-      let five : answer ≡ Refused 5 =
+      let five : answer ≡ Err refusal.Sheet =
       sheetless_refused (book_ledger book) index level set (book_sound book)
       (ap (λ (b : List ℕ). (book_ledger b).sheet.there) e ∙ no_sheet_lem) in
       record {
         exactly_5 = (λ r. e, λ b. five);
-        exactly_17 = (λ r. absurd (let z = same_number 5 17 (sym five ∙ r) in omega arith), λ p. absurd (p.0 e));
+        exactly_17 = (λ r. absurd (let z = same_number refusal.Sheet refusal.Nobody (sym five ∙ r) in omega arith), λ p. absurd (p.0 e));
         else_exact = λ some. absurd (some e);
       }
 
   -- with a sheet, once the answer is known
   module _ (some : book ≡ [] → ⊥) where
-    refused_17 : below ≡ 0 → answer ≡ Refused 17 → EndToEnd book index level set
+    refused_17 : below ≡ 0 → answer ≡ Err refusal.Nobody → EndToEnd book index level set
     refused_17 z r =
         record {
-          exactly_5 = (λ q. absurd (let n = same_number 17 5 (sym r ∙ q) in omega arith), λ b. absurd (some b));
+          exactly_5 = (λ q. absurd (let n = same_number refusal.Nobody refusal.Sheet (sym r ∙ q) in omega arith), λ b. absurd (some b));
           exactly_17 = (λ q. (some, z), λ p. r);
           else_exact = λ b n. absurd (n z);
         }
 
-    exact : (below ≡ 0 → ⊥) → (f : Fraction) → answer ≡ Is f → IsAnnex index book level set f → EndToEnd book index level set
+    exact : (below ≡ 0 → ⊥) → (f : Fraction) → answer ≡ Ok f → IsAnnex index book level set f → EndToEnd book index level set
     exact n f r is =
         record {
-          exactly_5 = (λ q. absurd (no_number 5 f (sym r ∙ q)), λ b. absurd (some b));
-          exactly_17 = (λ q. absurd (no_number 17 f (sym r ∙ q)), λ p. absurd (n p.1));
+          exactly_5 = (λ q. absurd (no_number refusal.Sheet f (sym r ∙ q)), λ b. absurd (some b));
+          exactly_17 = (λ q. absurd (no_number refusal.Nobody f (sym r ∙ q)), λ p. absurd (n p.1));
           else_exact = λ b m. (f, r, is);
         }
 
@@ -103,7 +104,7 @@ module _ (book : List ℕ) (index : Index) (level : Level) (set : Set) where
           let n : divisor ≡ 0 → ⊥ = eqb-false divisor 0 t in
           let formula = formula_of (book_ledger book) index level set in
           let f = lowest_of formula.top formula.bottom in
-          let r : answer ≡ Is f = somebody_answered (book_ledger book) index level set (book_sound book) there n in
+          let r : answer ≡ Ok f = somebody_answered (book_ledger book) index level set (book_sound book) there n in
           let is = index_exact (book_ledger book) index level set f r in
           exact (λ z. weighted_exists index divisor n (weighed ∙ z)) f r
           (record { lowest = is.lowest; same = subst (λ (g : Fraction). Same f g) same is.same })
@@ -133,16 +134,16 @@ decimal_to_end book accepted index level set digits some exists few = go (accept
     l : Ledger
     l = book_ledger book
 
-    answered : (f : Fraction) × (answer_for book index level set ≡ Is f) × IsAnnex index book level set f
+    answered : (f : Fraction) × (answer_for book index level set ≡ Ok f) × IsAnnex index book level set f
     answered = (end_to_end book accepted index level set).else_exact some exists
 
     f : Fraction
     f = answered.0
 
-    shows : shown_index l index level set digits ≡ shown.Is (decimal_of f digits)
-    shows = ap (λ (a : Answer). shown_answer a digits) answered.1 ∙ else_shown f digits answered.2.lowest.exists few
+    shows : shown_index l index level set digits ≡ Ok (decimal_of f digits)
+    shows = ap (λ (a : Result Fraction Refusal). shown_answer a digits) answered.1 ∙ else_shown f digits answered.2.lowest.exists few
 
-    go : Shape book → (d : Decimal) × (shown_index l index level set digits ≡ shown.Is d) × NearAnnex index book level set digits d
+    go : Shape book → (d : Decimal) × (shown_index l index level set digits ≡ Ok d) × NearAnnex index book level set digits d
     go (no_bytes e) = absurd (some e)
     go (sheet_then s ss e j told) =
         let near = decimal_nearest l index level set digits (decimal_of f digits) shows in (

@@ -1,22 +1,21 @@
 -- What *each index is that formula's exact fraction in lowest terms* says of an accepted book, from its bytes to the answer.
-use Rattle.std.specs.Prelude.{ℕ, ◌+◌, ◌*◌, ◌^◌, ◌<◌, ◌≤◌, ◌≡◌, ◌↔◌, List, []}
+use Rattle.std.specs.Prelude.{ℕ, ◌+◌, ◌*◌, ◌^◌, ◌<◌, ◌≤◌, ◌≡◌, ◌↔◌, List, [], Result, Ok, Err}
+use Rattle.refusals.specs.declared.Refusal.{Refusal}
+use Rattle.refusals.specs.declared.Refusal.TheVariants as refusal
 use Rattle.ratio.specs.declared.Fraction.{Fraction}
 use Rattle.ratio.specs.Fraction.{Same}
 use Rattle.ratio.specs.Lowest.{Lowest}
 use Rattle.decimal.specs.declared.Decimal.{Decimal}
-use Rattle.decimal.specs.declared.Shown.TheVariants as shown
 use Rattle.decimal.specs.Decimal.{Nearest}
 use Rattle.codes.specs.declared.Set.{Set}
 use Rattle.law_sums.specs.Theorem.{book_ledger}
 use Rattle.index.specs.declared.Level.{Level}
 use Rattle.index.specs.declared.Index.{Index}
-use Rattle.index.specs.declared.Answer.{Answer}
-use Rattle.index.specs.declared.Answer.TheVariants.{Is, Refused}
 use Rattle.index.specs.Index.{index_of, shown_index}
 use Rattle.law_index.specs.Formulas.{annex_fraction}
 
 -- what is answered for the ledger of a book
-abbrev pub answer_for : List ℕ → Index → Level → Set → Answer
+abbrev pub answer_for : List ℕ → Index → Level → Set → Result Fraction Refusal
 answer_for book index level set = index_of (book_ledger book) index level set
 
 -- the annex's fraction, in lowest terms
@@ -26,12 +25,12 @@ pub record IsAnnex (index : Index) (book : List ℕ) (level : Level) (set : Set)
 
 -- 5 exactly for the book of no bytes; 17 exactly where there is a sheet and the annex's fraction divides by 0; and else the annex's fraction
 pub record EndToEnd (book : List ℕ) (index : Index) (level : Level) (set : Set) : Type 0 where
-  pub exactly_5 : (answer_for book index level set ≡ Refused 5) ↔ (book ≡ [])
-  pub exactly_17 : (answer_for book index level set ≡ Refused 17) ↔ ((book ≡ [] → ⊥) × ((annex_fraction index book level set).bottom ≡ 0))
+  pub exactly_5 : (answer_for book index level set ≡ Err refusal.Sheet) ↔ (book ≡ [])
+  pub exactly_17 : (answer_for book index level set ≡ Err refusal.Nobody) ↔ ((book ≡ [] → ⊥) × ((annex_fraction index book level set).bottom ≡ 0))
   pub else_exact :
       (book ≡ [] → ⊥) →
       ((annex_fraction index book level set).bottom ≡ 0 → ⊥) →
-      (f : Fraction) × (answer_for book index level set ≡ Is f) × IsAnnex index book level set f
+      (f : Fraction) × (answer_for book index level set ≡ Ok f) × IsAnnex index book level set f
 
 -- so many digits after the point, nearest to the annex's fraction, a tie upward
 pub record NearAnnex (index : Index) (book : List ℕ) (level : Level) (set : Set) (digits : ℕ) (d : Decimal) : Type 0 where
@@ -45,4 +44,4 @@ DecimalToEnd book index level set digits =
     (book ≡ [] → ⊥) →
     ((annex_fraction index book level set).bottom ≡ 0 → ⊥) →
     digits ≤ 6 →
-    (d : Decimal) × (shown_index (book_ledger book) index level set digits ≡ shown.Is d) × NearAnnex index book level set digits d
+    (d : Decimal) × (shown_index (book_ledger book) index level set digits ≡ Ok d) × NearAnnex index book level set digits d

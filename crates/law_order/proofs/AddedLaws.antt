@@ -7,7 +7,7 @@ use lib.ListN.{get_or, set}
 use native.Mathlib.Nat.{add_right_comm}
 use Rattle.annex.specs.declared.Figures.{Figures}
 use Rattle.annex.specs.Figure.{figure_at}
-use Rattle.verdict.specs.declared.Verdict.{Verdict}
+use Rattle.verdict.specs.Verdict.{Verdict}
 use Rattle.ledger.specs.declared.Cell.{Cell}
 use Rattle.ledger.specs.declared.TypeRow.{TypeRow}
 use Rattle.ledger.specs.declared.Ledger.{Ledger}

@@ -24,8 +24,7 @@ use Rattle.used_numbers.proofs.MarkLaws.{marked_with_same, marked_with_other, ma
 use Rattle.fields.specs.declared.Sheet.{Sheet}
 use Rattle.fields.specs.Fields.{head_in}
 use Rattle.fields.specs.Tests.{head_listed}
-use Rattle.verdict.specs.declared.Verdict.{Verdict}
-use Rattle.verdict.specs.Verdict.{event_verdict}
+use Rattle.verdict.specs.Verdict.{Verdict, event_verdict}
 use Rattle.record.specs.Rules.{rules, by_kind, already_marked, ledger_full}
 use Rattle.record.specs.Verdict.{accepted_at, record_answer}
 use Rattle.record.proofs.JudgeLaws.{accepted_clear}

@@ -21,7 +21,7 @@ use Rattle.records.proofs.TakeLaws.{first_accepted}
 use Rattle.used_numbers.specs.Marks.{marked_with, map_size}
 use Rattle.used_numbers.proofs.MarkLaws.{marked_with_zero}
 use Rattle.fields.specs.Fields.{sheet_in, no_sheet}
-use Rattle.verdict.specs.declared.Verdict.{Verdict}
+use Rattle.verdict.specs.Verdict.{Verdict}
 use Rattle.record.specs.Rules.{by_kind, rules, rules_at, unframed, length_wrong, sheet_out_of_range}
 use Rattle.record.specs.Verdict.{accepted_at, record_answer}
 use Rattle.record.proofs.JudgeLaws.{accepted_clear}

@@ -18,8 +18,7 @@ use Rattle.used_numbers.proofs.MarkLaws.{marked_with_same, marked_with_other}
 use Rattle.fields.specs.declared.Sheet.{Sheet}
 use Rattle.fields.specs.Fields.{sheet_in, head_in}
 use Rattle.fields.specs.Tests.{head_listed}
-use Rattle.verdict.specs.declared.Verdict.{Verdict}
-use Rattle.verdict.specs.Verdict.{sheet_verdict, event_verdict}
+use Rattle.verdict.specs.Verdict.{Verdict, sheet_verdict, event_verdict}
 use Rattle.record.specs.Rules.{by_kind}
 use Rattle.record.specs.Verdict.{accepted_at}
 use Rattle.ledger.specs.declared.Ledger.{Ledger}

@@ -11,8 +11,7 @@ use Rattle.annex.specs.Figure.{Figure, given}
 use Rattle.used_numbers.specs.Marks.{map_size, marked_with}
 use Rattle.fields.specs.declared.Sheet.{Sheet}
 use Rattle.fields.specs.Fields.{sheet_in, head_in, simple_in, steps_in}
-use Rattle.verdict.specs.declared.Verdict.{Verdict}
-use Rattle.verdict.specs.Verdict.{event_verdict}
+use Rattle.verdict.specs.Verdict.{Verdict, event_verdict}
 use Rattle.ledger.specs.Ledger.{empty_ledger}
 use Rattle.ledger.specs.Take.{answer_of}
 use Rattle.records.specs.Records.{is_broken}

@@ -19,8 +19,7 @@ use Rattle.annex.specs.Figures.{customers, half_minutes, nothing}
 use Rattle.annex.specs.Figure.{Figure, Off, Halves, figure_at}
 use Rattle.annex.proofs.FoldLaws.{each_level_lem}
 use Rattle.fields.specs.declared.Sheet.{Sheet}
-use Rattle.verdict.specs.declared.Verdict.{Verdict}
-use Rattle.verdict.specs.Verdict.{refused_with, sheet_verdict}
+use Rattle.verdict.specs.Verdict.{Verdict, refused_with, sheet_verdict}
 use Rattle.ledger.specs.declared.Cell.{Cell}
 use Rattle.ledger.specs.declared.TypeRow.{TypeRow}
 use Rattle.ledger.specs.declared.Ledger.{Ledger}

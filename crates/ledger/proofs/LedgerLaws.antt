@@ -16,7 +16,7 @@ use Rattle.codes.specs.Ranges.{most_events}
 use Rattle.annex.specs.Figure.{Figure, Off, Halves, most_of}
 use Rattle.fields.specs.declared.Sheet.{Sheet}
 use Rattle.fields.specs.Tests.{in_range}
-use Rattle.verdict.specs.declared.Verdict.{Verdict}
+use Rattle.verdict.specs.Verdict.{Verdict}
 use Rattle.record.specs.Inside.{Fair}
 use Rattle.ledger.specs.declared.Cell.{Cell}
 use Rattle.ledger.specs.declared.TypeRow.{TypeRow}

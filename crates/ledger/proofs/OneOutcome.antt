@@ -1,6 +1,7 @@
 -- No second outcome meets what a public function of this crate promises. Assumes nothing.
 use mathlib.Core.Path.{refl}
 use Rattle.base.proofs.OneOutcome.{OneOutcome, alike}
+use Rattle.ledger.proofs.TakeLaws.{same_taken}
 use Rattle.ledger.proofs.TypeRow.none.Kinds as none-kinds
 use Rattle.ledger.proofs.TypeRow.none.Reads as none
 use Rattle.ledger.proofs.TypeRow.grown.Kinds as grown-kinds
@@ -27,8 +28,8 @@ pub sound_one : OneOutcome sound-kinds.ps sound-kinds.r sound.Post
 sound_one κs a x y v w p q = (alike p q, refl)
 
 pub add-one : OneOutcome add-kinds.ps add-kinds.r add.Post
-add-one κs a x y v w p q = ((λ i. record { answer = alike p.0 q.0 i; ledger = alike p.1 q.1 i }), refl)
+add-one κs a x y v w p q = (alike p q, refl)
 
 -- answer, ledger and map are decided
 pub take_one : OneOutcome take-kinds.ps take-kinds.r take.Post
-take_one κs a x y v w p q = (alike p.0 q.0, λ i. (tt, (alike p.1 q.1 i, (tt, tt))))
+take_one κs a x y v w p q = (same_taken a.0 x y (alike p.0 q.0), λ i. (tt, (alike p.1 q.1 i, (tt, tt))))

@@ -1,4 +1,5 @@
 -- What taking a record does, by its answer: callers cite these laws and not the definitions. Assumes nothing.
+use Rattle.std.specs.Prelude.{Result, Ok, Err}
 use Prim.Native.Nat.{ℕ}
 use mathlib.Core.Path.{◌≡◌, sym, ◌∙◌, ap, subst}
 use mathlib.Core.List.{List}
@@ -12,14 +13,19 @@ use Rattle.base.proofs.TestLaws.{Tested, holds, fails, test}
 use Rattle.wire.specs.Frame.{kind_of}
 use Rattle.used_numbers.specs.Marks.{marked_with}
 use Rattle.used_numbers.proofs.MarkLaws.{marked_with_zero, marked_with_size}
-use Rattle.verdict.specs.declared.Verdict.{Verdict}
-use Rattle.verdict.specs.Verdict.{refused_with}
+use Rattle.refusals.specs.declared.Refusal.{Refusal}
+use Rattle.refusals.specs.Refusals.{answer_in}
+use Rattle.refusals.proofs.NumberLaws.{same_refusal, no_refusal_0}
+use Rattle.verdict.specs.declared.Accepted.{Accepted}
+use Rattle.verdict.specs.Judged.{judged}
+use Rattle.verdict.proofs.JudgedLaws.{judged_answer}
+use Rattle.verdict.specs.Verdict.{Verdict, refused_with}
 use Rattle.record.specs.Rules.{rules}
 use Rattle.record.specs.Verdict.{record_answer, verdict_of, accepted_at}
-use Rattle.record.proofs.JudgeLaws.{verdict_refused, verdict_accepted}
+use Rattle.record.proofs.JudgeLaws.{verdict_refused, verdict_accepted, verdict_answer}
 use Rattle.ledger.specs.declared.Ledger.{Ledger}
 use Rattle.ledger.specs.Ledger.{added, Shaped}
-use Rattle.ledger.specs.Take.{unsound, answer_of, ledger_after, map_after}
+use Rattle.ledger.specs.Take.{unsound, answer_of, ledger_after, map_after, Taken, taken_in}
 use Rattle.ledger.proofs.CellLaws.{added_refused, added_shaped}
 
 module _ (l : Ledger) (m s : List ℕ) where
@@ -100,3 +106,16 @@ module _ (l : Ledger) (m s : List ℕ) where
           ap (λ (v : Verdict). marked_with m v.number) (accepted_verdict a ∙ ap (λ kind. accepted_at kind s l.sheet) k) ∙
           marked_with_zero m
       go (fails e) = (refused_hands_back (eqb-false _ _ e)).1
+
+-- an outcome of judging the record under a sound ledger answers its number
+pub judged_number :
+    (l : Ledger) (m s : List ℕ) → unsound l m ≡ false → (x : Result Accepted Refusal) → judged l.sheet x ≡ verdict_of s l.sheet m l.events → answer_in x ≡ answer_of l m s
+judged_number l m s fine x is =
+    sym (judged_answer l.sheet x) ∙ ap (λ (v : Verdict). v.answer) is ∙ verdict_answer s l.sheet m l.events ∙ sym (answer_judged l m s fine)
+
+-- no two outcomes come to the same for a caller that holds the ledger
+pub same_taken : (l : Ledger) (x y : Result Ledger Refusal) → taken_in l x ≡ taken_in l y → x ≡ y
+same_taken l (Ok a) (Ok b) same = ap (λ (t : Taken). Ok t.ledger) same
+same_taken l (Ok a) (Err s) same = absurd (no_refusal_0 s (sym (ap (λ (t : Taken). t.answer) same)))
+same_taken l (Err r) (Ok b) same = absurd (no_refusal_0 r (ap (λ (t : Taken). t.answer) same))
+same_taken l (Err r) (Err s) same = ap (λ t. Err t) (same_refusal r s (ap (λ (t : Taken). t.answer) same))

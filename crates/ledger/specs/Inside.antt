@@ -4,7 +4,7 @@ use Rattle.codes.specs.Codes.{levels}
 use Rattle.codes.specs.Ranges.{most_events}
 use Rattle.annex.specs.declared.Figures.{Figures}
 use Rattle.annex.specs.Figure.{Figure, figure_at, most_of}
-use Rattle.verdict.specs.declared.Verdict.{Verdict}
+use Rattle.verdict.specs.Verdict.{Verdict}
 use Rattle.record.specs.Inside.{Fair}
 use Rattle.ledger.specs.declared.Cell.{Cell}
 use Rattle.ledger.specs.declared.Ledger.{Ledger}

@@ -8,7 +8,7 @@ use Rattle.annex.specs.declared.Figures.{Figures}
 use Rattle.annex.specs.Figures.{customers, half_minutes}
 use Rattle.annex.specs.Figure.{Figure, Off, Halves}
 use Rattle.fields.specs.Fields.{no_sheet}
-use Rattle.verdict.specs.declared.Verdict.{Verdict}
+use Rattle.verdict.specs.Verdict.{Verdict}
 use Rattle.ledger.specs.declared.Cell.{Cell}
 use Rattle.ledger.specs.declared.TypeRow.{TypeRow}
 use Rattle.ledger.specs.declared.Ledger.{Ledger}

@@ -1,13 +1,19 @@
 -- One record at the book entry: the answer, the ledger handed back, and the map afterwards (01, "Refusal numbers").
-use Rattle.std.specs.Prelude.{ℕ, List, ◌∷◌, Bool, ◌||◌, not, cond, length, eqb}
+use Rattle.std.specs.Prelude.{ℕ, List, ◌∷◌, Bool, ◌||◌, not, cond, length, eqb, Result, Ok, Err}
+use Rattle.refusals.specs.declared.Refusal.{Refusal}
+use Rattle.refusals.specs.Refusals.{number_of}
 use Rattle.base.specs.First.{Rule, first}
 use Rattle.used_numbers.specs.Marks.{marked_with, map_size}
 use Rattle.record.specs.Rules.{rules}
 use Rattle.record.specs.Verdict.{verdict_of}
 use Rattle.ledger.specs.declared.Ledger.{Ledger}
-use Rattle.ledger.specs.declared.Taken.{Taken}
 use Rattle.ledger.specs.Ledger.{added}
 use Rattle.ledger.specs.Sound.{sound_ledger}
+
+-- an answer, and the next ledger
+pub record Taken : Type 0 where
+  pub answer : ℕ
+  pub ledger : Ledger
 
 -- 1: "map not 8,192 bytes, unsound ledger"
 abbrev pub unsound : Ledger → List ℕ → Bool
@@ -30,3 +36,8 @@ map_after l m s = cond (eqb (answer_of l m s) 0) (marked_with m (verdict_of s l.
 
 abbrev pub taken_of : Ledger → List ℕ → List ℕ → Taken
 taken_of l m s = record { answer = answer_of l m s; ledger = ledger_after l m s }
+
+-- what an outcome comes to for a caller that holds the ledger: a refusal leaves it that ledger
+abbrev pub taken_in : Ledger → Result Ledger Refusal → Taken
+taken_in l (Ok next) = record { answer = 0; ledger = next }
+taken_in l (Err r) = record { answer = number_of r; ledger = l }

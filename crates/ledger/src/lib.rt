@@ -5,15 +5,17 @@
 ghost use Rattle.std.specs.Prelude.{◌≡◌, ◌&&◌, ◌≤◌, ◌*◌};
 ghost use Rattle.base.specs.Lists.{every};
 ghost use Rattle.annex.specs.Figure.{Off, Halves, most_of};
+ghost use Rattle.verdict.specs.Judged.{accepted_verdict};
 ghost use Rattle.ledger.specs.Ledger.{empty_row, empty_ledger, grown_by, grown_levels, grown_row, added};
 ghost use Rattle.ledger.specs.Sound.{cell_within, row_within, sheet_sound, sound_ledger};
 ghost use Rattle.ledger.specs.Inside.{Spare, SpareRow, Small, Fits};
-ghost use Rattle.ledger.specs.Take.{taken_of, map_after};
+ghost use Rattle.ledger.specs.Take.{taken_in, taken_of, map_after};
 
 use annex::{Customers, Figures, HalfMinutes};
 use codes::{LEVELS, ROWS};
 use fields::Sheet;
-use verdict::Verdict;
+use refusals::Refusal;
+use verdict::Accepted;
 
 // How many bytes a map of used numbers has.
 pub const MAP: usize = 8192;
@@ -38,13 +40,6 @@ pub struct Ledger {
     pub events: u16,
     pub short: u16,
     pub rows: [TypeRow; ROWS],
-}
-
-// An answer number, and the next ledger.
-#[derive(Clone, Copy)]
-pub struct Taken {
-    pub answer: u8,
-    pub ledger: Ledger,
 }
 
 impl Cell {
@@ -107,17 +102,15 @@ impl TypeRow {
         requires { SpareRow self.levels × Small figures }
         ensures { result ≡ grown_row self figures }
     {
-        let c = self.levels;
         TypeRow {
-            levels: grown_levels(c, figures),
+            levels: grown_levels(self.levels, figures),
         }
     }
 
     fn within(self, events: u16) -> bool
         ensures { result ≡ row_within events self }
     {
-        let c = self.levels;
-        levels_within(c, events)
+        levels_within(self.levels, events)
     }
 }
 
@@ -160,45 +153,34 @@ impl Ledger {
     pub fn sound(self) -> bool
         ensures { result ≡ sound_ledger self }
     {
-        let sheet = self.sheet;
-        let rows = self.rows;
-        sheet_sound(sheet, self.events)
+        sheet_sound(self.sheet, self.events)
             & (self.events <= codes::MOST_EVENTS)
             & (self.short <= self.events)
-            & rows_within(rows, self.events)
+            & rows_within(self.rows, self.events)
     }
 
-    // The answer of a verdict, and the ledger with what the verdict adds.
-    pub fn add(mut self, v: Verdict) -> Taken
-        requires { Fits self v }
-        ensures { (result.answer ≡ v.answer) × (result.ledger ≡ added self v) }
+    // The ledger with what an accepted record adds.
+    pub fn add(mut self, accepted: Accepted) -> Ledger
+        requires { Fits self (accepted_verdict accepted) }
+        ensures { result ≡ added self (accepted_verdict accepted) }
     {
-        let figures = v.figures;
-        let sheet = v.sheet;
-        let at = v.row as usize;
-        self.rows[at] = self.rows[at].grown(figures);
-        self.sheet = sheet;
-        self.events = self.events + v.events;
-        self.short = self.short + v.short;
-        Taken {
-            answer: v.answer,
-            ledger: self,
-        }
+        let row = accepted.row as usize;
+        self.rows[row] = self.rows[row].grown(accepted.figures);
+        self.sheet = accepted.sheet;
+        self.events += accepted.events;
+        self.short += accepted.short;
+        self
     }
 
-    // One record of a book: the answer number and the next ledger. The map is marked where an event is accepted.
-    pub fn take(self, map: &mut [u8], bytes: &[u8]) -> Taken
-        ensures { (result ≡ taken_of self map.old bytes.now) × (map.new ≡ map_after self map.old bytes.now) }
+    // One record of a book: the next ledger, and the map is marked where an event is accepted. A refusal leaves ledger and map.
+    pub fn take(self, map: &mut [u8], bytes: &[u8]) -> Result<Ledger, Refusal>
+        ensures { (taken_in self result ≡ taken_of self map.old bytes.now) × (map.new ≡ map_after self map.old bytes.now) }
     {
         if (map.len() != MAP) | !self.sound() {
-            return Taken {
-                answer: 1,
-                ledger: self,
-            };
+            return Err(Refusal::Unsound);
         }
-        let sheet = self.sheet;
-        let v = record::judge(bytes, sheet, &map[..], self.events);
-        used_numbers::mark(map, v.number);
-        self.add(v)
+        let accepted = record::judge(bytes, self.sheet, &map[..], self.events)?;
+        used_numbers::mark(map, accepted.number);
+        Ok(self.add(accepted))
     }
 }

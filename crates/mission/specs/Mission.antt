@@ -1,6 +1,6 @@
 -- What the user asked for, sentence by sentence. A ledger, a map, a desk and bytes are any that can be lent; an accepted book is one that, taken from an empty
 -- ledger and an all-zero map, ends with a record and has every record accepted (law_sums, Accepted).
-use Rattle.std.specs.Prelude.{ℕ, ◌<◌, ◌≡◌, ◌↔◌, List, [], ◌∷◌, map, Bool, true, false}
+use Rattle.std.specs.Prelude.{ℕ, ◌<◌, ◌≡◌, ◌↔◌, List, [], ◌∷◌, map, Bool, true, false, Ok}
 use Rattle.base.specs.First.{Foremost}
 use Rattle.base.specs.Lists.{All, Bytes, listed}
 use Rattle.wire.specs.Cut.{records_of, joined}
@@ -18,7 +18,6 @@ use Rattle.desk_rules.specs.Serve.{message_answer, ledger_served, map_served, de
 use Rattle.index.specs.declared.Index.{Index}
 use Rattle.index.specs.declared.Index.TheVariants.{Saifi, Caidi}
 use Rattle.index.specs.declared.Level.{Level}
-use Rattle.index.specs.declared.Answer.TheVariants.{Is}
 use Rattle.index.specs.Index.{index_of}
 use Rattle.index.specs.Answered.{Way, Exact}
 use Rattle.law_sums.specs.Accepted.{Accepted}
@@ -62,7 +61,7 @@ pub record Demand2 : Type 0 where
   pub book_adds : (book : List ℕ) → Accepted book → IsSum book
   -- "and each index is that formula's exact fraction in lowest terms."
   pub index_exact :
-      (l : Ledger) (index : Index) (level : Level) (set : Set) (f : Fraction) → index_of l index level set ≡ Is f → Exact l index level set f
+      (l : Ledger) (index : Index) (level : Level) (set : Set) (f : Fraction) → index_of l index level set ≡ Ok f → Exact l index level set f
   pub book_index : (book : List ℕ) → Accepted book → (index : Index) (level : Level) (set : Set) → EndToEnd book index level set
   -- "Outages built up step by step at a desk that began empty count, once none is open, exactly as complete records taken in the order of closing."
   pub step_by_step :
@@ -103,6 +102,6 @@ pub record Demand3 : Type 0 where
   -- "and CAIDI times SAIFI is SAIDI wherever SAIFI and CAIDI both exist."
   pub multiplied :
       (l : Ledger) (level : Level) (set : Set) (saifi caidi : Fraction) →
-      index_of l Saifi level set ≡ Is saifi →
-      index_of l Caidi level set ≡ Is caidi →
+      index_of l Saifi level set ≡ Ok saifi →
+      index_of l Caidi level set ≡ Ok caidi →
       Multiplies l level set saifi caidi

@@ -10,7 +10,7 @@ use native.Mathlib.Numerals.{add-one}
 use borrow.Author.Tests.{ne_eqb}
 use Rattle.wire.specs.Numbers.{le2, le4}
 use Rattle.codec.specs.Codec.{four_each, frame, head_bytes}
-use Rattle.text_items.specs.declared.Entry.{Entry}
+use Rattle.text_items.specs.Entry.{Entry}
 use Rattle.text_items.specs.Shape.{whole_of}
 use Rattle.text_items.proofs.ShapeLaws.{whole_sheet, whole_simple, whole_stepped}
 use Rattle.pen.specs.Pen.{Spot, pushed, pushed_all}

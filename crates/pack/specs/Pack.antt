@@ -2,7 +2,7 @@
 use Rattle.std.specs.Prelude.{ℕ, ◌-◌, ◌/◌, ◌%◌, List, [], ◌∷◌, not, cond, eqb, length, take, drop, get_or}
 use Rattle.fields.specs.declared.Head.{Head}
 use Rattle.codec.specs.Codec.{sheet_record, simple_record, stepped_record}
-use Rattle.text_items.specs.declared.Entry.{Entry}
+use Rattle.text_items.specs.Entry.{Entry}
 use Rattle.text_items.specs.Shape.{whole_of}
 
 abbrev pub one_each : List ℕ → List ℕ

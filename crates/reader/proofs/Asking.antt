@@ -1,17 +1,9 @@
--- What `Reader::next` says of its answer, and that a reader is known by its book and its offset. Assumes nothing.
+-- A reader is known by its book and its offset. Assumes nothing.
 use mathlib.Core.Path.{◌≡◌, ap, ◌∙◌}
 use Prim.Native.Nat.{ℕ}
 use mathlib.Core.List.{List}
 use denote.Ref.{Bor}
-use Rattle.wire.specs.Book.{which_at, record_at, after_at}
 use Rattle.reader.specs.declared.Reader.{Reader}
-use Rattle.reader.specs.declared.Answer.{Answer}
-
--- what `next` says of its answer
-abbrev pub Answered : Reader → Answer → Type 0
-Answered r a =
-    (a.which ≡ which_at r.book.now r.at) × (a.bytes.now ≡ record_at r.book.now r.at) × (a.reader.book ≡ r.book)
-    × (a.reader.at ≡ after_at r.book.now r.at)
 
 -- a reader by its parts
 abbrev pub reading : Bor (List ℕ) → ℕ → Reader

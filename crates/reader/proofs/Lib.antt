@@ -1,4 +1,3 @@
 pub mod ReaderLaws
-pub mod Rows
 pub mod Asking
 pub mod OneOutcome

@@ -1,8 +1,21 @@
 -- What asking a reader is, on lists. A reader of a book stands at an offset. Asked there, it answers `which_at book at` and the bytes
 -- `record_at book at`, and stands at `after_at book at` from then on (the contract of `Reader::next`).
-use Rattle.std.specs.Prelude.{ℕ, zero, suc, ◌+◌, ◌-◌, ◌<◌, ◌≤◌, List, [], ◌∷◌, cond, ◌⊎◌, eqb, length}
+use Rattle.std.specs.Prelude.{ℕ, zero, suc, ◌+◌, ◌-◌, ◌<◌, ◌≤◌, List, [], ◌∷◌, cond, ◌⊎◌, eqb, length, Result, Ok, Err, Option, Some, None}
+use denote.Ref.{Bor}
 use Rattle.wire.specs.Numbers.{le16}
 use Rattle.wire.specs.Book.{which_at, record_at, after_at}
+use Rattle.reader.specs.declared.Broken.{Broken}
+
+-- what `next` answers, as a number and bytes: 0 a record, 1 the end, 2 a broken length, and no bytes where there is no record
+abbrev pub which_in : Result (Option (Bor (List ℕ))) Broken → ℕ
+which_in (Ok (Some bytes)) = 0
+which_in (Ok None) = 1
+which_in (Err broken) = 2
+
+abbrev pub bytes_in : Result (Option (Bor (List ℕ))) Broken → List ℕ
+bytes_in (Ok (Some bytes)) = bytes.now
+bytes_in (Ok None) = []
+bytes_in (Err broken) = []
 
 -- "the end when no byte is left"
 abbrev pub NoneLeft : List ℕ → ℕ → Type 0

@@ -3,6 +3,9 @@
 
 ghost use Rattle.std.specs.Prelude.{◌≡◌};
 ghost use Rattle.wire.specs.Book.{which_at, record_at, after_at};
+ghost use Rattle.reader.specs.Reader.{which_in, bytes_in};
+
+use wire::Place;
 
 // A book, and the offset where its next record starts; the offset may lie past the book's end.
 #[derive(Clone, Copy)]
@@ -11,14 +14,9 @@ pub struct Reader<'a> {
     pub at: usize,
 }
 
-// What a reader answers: 0 a record, 1 the end, 2 a broken length; the record's bytes (none where there is no record); and the reader, moved past
-// the record, or the same.
-#[derive(Clone, Copy)]
-pub struct Answer<'a> {
-    pub which: u8,
-    pub bytes: &'a [u8],
-    pub reader: Reader<'a>,
-}
+// A broken length where the next record should start: under 4 or past the book's end, or only 1 to 3 bytes are left.
+#[derive(Clone, Copy, Debug, PartialEq, Eq)]
+pub struct Broken;
 
 impl<'a> Reader<'a> {
     // A reader at a book's start.
@@ -35,17 +33,17 @@ impl<'a> Reader<'a> {
         Reader { book, at }
     }
 
-    // The next answer.
-    pub fn next(self) -> Answer<'a>
-        ensures { (result.which ≡ which_at self.entry.book.now self.entry.at) × (result.bytes.now ≡ record_at self.entry.book.now self.entry.at) × (result.reader.book ≡ self.entry.book) × (result.reader.at ≡ after_at self.entry.book.now self.entry.at) }
+    // The next record's bytes, from which the reader moves past them; `None` at the end, and `Broken` at a broken length, after which it stays.
+    pub fn next(&mut self) -> Result<Option<&'a [u8]>, Broken>
+        ensures { (which_in result ≡ which_at self.old.book.now self.old.at) × (bytes_in result ≡ record_at self.old.book.now self.old.at) × (self.new.book ≡ self.old.book) × (self.new.at ≡ after_at self.old.book.now self.old.at) }
     {
-        let book = self.book;
-        let s = wire::stand_at(book, self.at);
-        let bytes = wire::part(book, s.start, s.end);
-        Answer {
-            which: s.which,
-            bytes,
-            reader: Reader { book, at: s.end },
+        match wire::place_at(self.book, self.at) {
+            Place::Record { start, end } => {
+                self.at = end;
+                Ok(Some(wire::part(self.book, start, end)))
+            }
+            Place::End => Ok(None),
+            Place::Broken => Err(Broken),
         }
     }
 }

@@ -1,4 +1,5 @@
 -- What a verdict is, by its answer: callers cite these laws and not the definitions. Assumes nothing.
+use Rattle.std.specs.Prelude.{Result, Ok, Err}
 use Prim.Native.Nat.{ℕ}
 use mathlib.Core.Path.{◌≡◌, refl, sym, ◌∙◌, ap}
 use mathlib.Core.List.{List, []}
@@ -10,6 +11,9 @@ use Rattle.base.specs.Lists.{any}
 use Rattle.base.proofs.FirstLaws.{clear, clear_at, unclear, then}
 use Rattle.base.proofs.TestLaws.{Tested, holds, fails, test, or_right}
 use Rattle.wire.specs.Frame.{framed, kind_of}
+use Rattle.refusals.specs.declared.Refusal.{Refusal}
+use Rattle.refusals.specs.Refusals.{number_of, answer_in}
+use Rattle.refusals.proofs.NumberLaws.{no_refusal_0}
 use Rattle.codes.specs.Codes.{level_of}
 use Rattle.codes.specs.Ranges.{most_events}
 use Rattle.annex.specs.declared.Step.{Step}
@@ -22,10 +26,9 @@ use Rattle.limits.specs.Limits.{exceeding, above_level, exceeding_figures, figur
 use Rattle.walk.specs.declared.Walk.{Walk}
 use Rattle.walk.specs.Walk.{set_out, walked}
 use Rattle.walk.proofs.WalkLaws.{walked_late, walked_figures, exceed_by_largest, above_by_largest}
-use Rattle.verdict.specs.declared.Verdict.{Verdict}
-use Rattle.verdict.specs.Verdict.{refused_with, event_verdict}
+use Rattle.verdict.specs.Verdict.{Verdict, refused_with, event_verdict}
 use Rattle.record.specs.Rules.{by_kind, rules, rules_at, length_wrong}
-use Rattle.record.specs.Inside.{first_of, simple_tests, stepped_tests, answer_at, verdict_at}
+use Rattle.record.specs.Inside.{simple_tests, stepped_tests, answer_at, verdict_at}
 use Rattle.record.specs.Verdict.{accepted_at, record_answer, verdict_of}
 
 module _ (kind : ℕ) (s : List ℕ) (sheet : Sheet) (m : List ℕ) (events : ℕ) where
@@ -104,8 +107,12 @@ module _ (kind : ℕ) (s : List ℕ) (sheet : Sheet) (m : List ℕ) (events : �
   unfolding answer_at
   answered_rules e = clear_at (rules_at kind s sheet m events) (clear 2 (rules_at kind s sheet m events) (tt, (tt, (tt, (tt, (tt, (tt, (tt, (tt, (tt, (tt, (tt, tt))))))))))) e)
 
+-- the first four tests of an event, before the number that the rest answers
+abbrev first_of : Bool → Bool → Bool → Bool → ℕ → ℕ
+first_of c5 c7 c10 c11 rest = cond c5 5 (cond c7 7 (cond c10 10 (cond c11 11 rest)))
+
 -- where 10 applies, what comes after it does not matter
-pub ten_hides : (c5 c7 c10 : Bool) → c10 ≡ true → (a b : Bool) (r s : ℕ) → first_of c5 c7 c10 a r ≡ first_of c5 c7 c10 b s
+ten_hides : (c5 c7 c10 : Bool) → c10 ≡ true → (a b : Bool) (r s : ℕ) → first_of c5 c7 c10 a r ≡ first_of c5 c7 c10 b s
 ten_hides c5 c7 c10 e a b r s =
     ap (λ t. cond c5 5 (cond c7 7 (cond t 10 (cond a 11 r)))) e ∙ ap (λ t. cond c5 5 (cond c7 7 (cond t 10 (cond b 11 s)))) (sym e)
 
@@ -167,10 +174,10 @@ pub sheet_alone : (s : List ℕ) (sheet : Sheet) (m : List ℕ) (events : ℕ) �
 unfolding verdict_at answer_at
 sheet_alone s sheet m events = refl
 
--- a test that holds answers its number, and one that fails leaves the answer to the rest
-module _ {b : Bool} (n rest : ℕ) {x : ℕ} (e : cond b n rest ≡ x) where
-  pub met : b ≡ true → n ≡ x
-  met h = ap (λ t. cond t n rest) (sym h) ∙ e
+-- an outcome of an event's tests that answers the smallest number: a refusal is the verdict, and any other accepts
+module _ (kind : ℕ) (s : List ℕ) (sheet : Sheet) (m : List ℕ) (events : ℕ) {A : Type 0} (x : Result A Refusal) (answered : answer_in x ≡ answer_at kind s sheet m events) where
+  pub err_refuses : (r : Refusal) → x ≡ Err r → refused_with sheet (number_of r) ≡ verdict_at kind s sheet m events
+  err_refuses r e = sym (at_refused kind s sheet m events (number_of r) (sym answered ∙ ap answer_in e) (no_refusal_0 r))
 
-  pub passed : b ≡ false → rest ≡ x
-  passed h = ap (λ t. cond t n rest) (sym h) ∙ e
+  pub ok_answers_0 : (a : A) → x ≡ Ok a → answer_at kind s sheet m events ≡ 0
+  ok_answers_0 a e = sym answered ∙ ap answer_in e

@@ -6,8 +6,7 @@ use Rattle.annex.specs.Simple.{simple_figures}
 use Rattle.annex.specs.Stepped.{last_time, stepped_figures}
 use Rattle.fields.specs.declared.Sheet.{Sheet}
 use Rattle.fields.specs.Fields.{sheet_in, head_in, simple_in, steps_in}
-use Rattle.verdict.specs.declared.Verdict.{Verdict}
-use Rattle.verdict.specs.Verdict.{refused_with, sheet_verdict, event_verdict}
+use Rattle.verdict.specs.Verdict.{Verdict, refused_with, sheet_verdict, event_verdict}
 use Rattle.record.specs.Rules.{rules}
 
 -- what an accepted record of each kind comes to

@@ -6,9 +6,12 @@ use mathlib.Core.Bool.{Bool, true, false, cond}
 use lib.ListN.{length}
 use lib.Dec.{eqb}
 use native.Mathlib.Omega.{arith}
-use borrow.Author.Tests.{eqb-true}
+use borrow.Author.Tests.{eqb-true, ne_eqb}
 use Rattle.base.proofs.TestLaws.{Tested, holds, fails, test}
 use Rattle.wire.specs.Cut.{records_of}
+use Rattle.refusals.specs.declared.Refusal.{Refusal}
+use Rattle.refusals.specs.Refusals.{number_of}
+use Rattle.refusals.proofs.NumberLaws.{no_refusal_0}
 use Rattle.wire.proofs.CutLaws.{few_records}
 use Rattle.records.specs.Records.{take_all, one_if_refused}
 
@@ -45,6 +48,10 @@ one_at_most answer = go (eqb answer 0)
     go : (t : Bool) → cond t 0 1 ≤ 1
     go true = omega arith
     go false = omega arith
+
+-- and as one exactly where it is refused
+pub refusal_counts : (refusal : Refusal) → one_if_refused (number_of refusal) ≡ 1
+refusal_counts refusal = ap (λ (t : Bool). cond t 0 1) (ne_eqb _ 0 (no_refusal_0 refusal))
 
 -- the refused records, where a step counts them by its answer
 module _

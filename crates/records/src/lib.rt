@@ -3,24 +3,13 @@
 #![tactic(auto)]
 
 ghost use Rattle.std.specs.Prelude.{◌≡◌};
-ghost use Rattle.records.specs.Records.{one_if_refused};
+ghost use Rattle.refusals.specs.Refusals.{answer_in};
 ghost use Rattle.records.specs.Pieces.{dead_rest, moved, end_answer, piece_answer};
+
+use refusals::Refusal;
 
 // The most refused records that a reading in pieces goes on from: 2^62, so that their count cannot wrap. A file of at most so many bytes does not reach it.
 pub const MOST_REFUSED: u64 = 4611686018427387904;
-
-// What is answered to more refused records than that.
-pub const MANY_REFUSED: u8 = 252;
-
-// What is answered where more bytes are told than the buffer has.
-pub const MORE_TOLD: u8 = 253;
-
-// 1 for a refusal, 0 for none.
-pub fn one_if_refused(answer: u8) -> u64
-    ensures { result ≡ one_if_refused answer }
-{
-    if answer == 0 { 0 } else { 1 }
-}
 
 // Whether the first bytes of a buffer state a length below 4.
 pub fn is_dead(buffer: &[u8], held: usize) -> bool
@@ -33,43 +22,32 @@ pub fn is_dead(buffer: &[u8], held: usize) -> bool
 pub fn move_to_front(buffer: &mut [u8], start: usize, end: usize)
     ensures { buffer.new ≡ moved buffer.old start end }
 {
-    if buffer.len() < end {
-        return;
-    }
-    let mut from = start;
-    let mut to = 0;
-    while from < end {
-        let b = buffer[from];
-        buffer[to] = b;
-        from += 1;
-        to += 1;
+    if start <= end && end <= buffer.len() {
+        buffer.copy_within(start..end, 0);
     }
 }
 
-// Why a reading in pieces does not end in an outcome, as the smallest number that applies: 1 where what it fills is not fit for it, `MANY_REFUSED` for a
-// count of refused records above `MOST_REFUSED`; else 0.
-pub fn end_answer(fit: bool, refused: u64) -> u8
-    ensures { result ≡ end_answer fit refused }
+// Why a reading in pieces does not end in an outcome, as the refusal with the smallest number that applies: `Unsound` where what it fills is not fit for it,
+// `ManyRefused` for a count of refused records above `MOST_REFUSED`.
+pub fn end_answer(fit: bool, refused: u64) -> Result<(), Refusal>
+    ensures { answer_in result ≡ end_answer fit refused }
 {
     if !fit {
-        return 1;
+        return Err(Refusal::Unsound);
     }
     if MOST_REFUSED < refused {
-        return MANY_REFUSED;
+        return Err(Refusal::ManyRefused);
     }
-    0
+    Ok(())
 }
 
-// Why a piece is not taken: the same, and `MORE_TOLD` for a buffer of `room` bytes that is shorter than `filled`.
-pub fn piece_answer(fit: bool, refused: u64, room: usize, filled: usize) -> u8
-    ensures { result ≡ piece_answer fit refused room filled }
+// Why a piece is not taken: the same, and `MoreTold` for a buffer of `room` bytes that is shorter than `filled`.
+pub fn piece_answer(fit: bool, refused: u64, room: usize, filled: usize) -> Result<(), Refusal>
+    ensures { answer_in result ≡ piece_answer fit refused room filled }
 {
-    let answer = end_answer(fit, refused);
-    if answer != 0 {
-        return answer;
-    }
+    end_answer(fit, refused)?;
     if room < filled {
-        return MORE_TOLD;
+        return Err(Refusal::MoreTold);
     }
-    0
+    Ok(())
 }

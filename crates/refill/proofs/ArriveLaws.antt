@@ -13,8 +13,7 @@ use Rattle.records.specs.Pieces.{beginning, fed_all, Held, held_on, buffer_on}
 use Rattle.records.specs.Calls.{Call, Taker}
 use Rattle.records.proofs.CallLaws.{GoesOn}
 use Rattle.records.proofs.HeldLaws.{Holding, begins_holding, filled_up, held_on_lem, fed_last}
-use Rattle.refill.specs.declared.Filled.{Filled}
-use Rattle.refill.specs.Refill.{Refilled}
+use Rattle.refill.specs.Refill.{Filled, Refilled}
 use Rattle.refill.specs.Arrive.{room, Arrived}
 
 joined_last : (qs : List (List ℕ)) (q : List ℕ) → joined (qs ++ (q ∷ [])) ≡ joined qs ++ q

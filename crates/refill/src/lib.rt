@@ -2,40 +2,30 @@
 #![tactic(auto)]
 
 ghost use Rattle.std.specs.Prelude.{◌≤◌, length};
-ghost use Rattle.refill.specs.Refill.{Refilled};
+ghost use Rattle.refill.specs.Refill.{Refilled, filled_in};
 
 use std::io::Read;
 
-// How many bytes of the buffer are filled; whether none came, as at the end of the input; whether that is because the read failed.
-#[derive(Clone, Copy)]
-pub struct Filled {
-    pub count: usize,
-    pub ended: bool,
-    pub failed: bool,
-}
+// A read that fails, or that has no room to read into.
+#[derive(Clone, Copy, Debug, PartialEq, Eq)]
+pub struct Failed;
 
-// Reads once behind the bytes held. A buffer that has no room behind them is a read that fails.
-pub fn read_behind<R: Read>(reader: &mut R, buffer: &mut [u8], held: usize) -> Filled
-    ensures { Refilled buffer.old held result buffer.new }
+// Reads once behind the bytes held: how many bytes of the buffer are filled then, or `None` where none came, as at the end of the input. A buffer that has no
+// room behind them is a read that fails.
+pub fn read_behind<R: Read>(
+    reader: &mut R,
+    buffer: &mut [u8],
+    held: usize,
+) -> Result<Option<usize>, Failed>
+    ensures { Refilled buffer.old held (filled_in held result) buffer.new }
 {
     if buffer.len() <= held {
-        return Filled {
-            count: held,
-            ended: true,
-            failed: true,
-        };
+        return Err(Failed);
     }
     match reader.read(&mut buffer[held..]) {
-        Ok(came) => Filled {
-            count: held + came,
-            ended: came == 0,
-            failed: false,
-        },
-        Err(_) => Filled {
-            count: held,
-            ended: true,
-            failed: true,
-        },
+        Ok(0) => Ok(None),
+        Ok(came) => Ok(Some(held + came)),
+        Err(_) => Err(Failed),
     }
 }
 
@@ -44,12 +34,8 @@ pub fn read_full<R: Read>(reader: &mut R, buffer: &mut [u8]) -> usize
     ensures { result ≤ length buffer.new }
 {
     let mut held = 0;
-    while held < buffer.len() {
-        let filled = read_behind(reader, buffer, held);
-        if filled.ended {
-            return held;
-        }
-        held = filled.count;
+    while let Ok(Some(filled)) = read_behind(reader, buffer, held) {
+        held = filled;
     }
     held
 }

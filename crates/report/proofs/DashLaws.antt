@@ -1,6 +1,7 @@
 -- The report's lines are those of a sound ledger with a sheet, and two digits are not too many: 17 alone is left to be answered, and a decimal has more
 -- bytes than one. Assumes nothing.
 use Prim.Native.Nat.{◌+◌}
+use Rattle.std.specs.Prelude.{Result, Ok}
 use mathlib.Core.Path.{◌≡◌, sym, ap, ◌∙◌}
 use mathlib.Core.Bool.{true}
 use mathlib.Core.List.{◌∷◌, ◌++◌}
@@ -9,9 +10,8 @@ use lib.Dec.{eqb}
 use native.Mathlib.Omega.{arith}
 use borrow.Author.Tests.{eqb-true, eqb-false}
 use Rattle.base.proofs.TestLaws.{Tested, holds, fails, test}
+use Rattle.refusals.specs.declared.Refusal.{Refusal}
 use Rattle.decimal.specs.declared.Decimal.{Decimal}
-use Rattle.decimal.specs.declared.Shown.{Shown}
-use Rattle.decimal.specs.declared.Shown.TheVariants.{Is}
 use Rattle.ratio.specs.Lowest.{lowest_of}
 use Rattle.ratio.proofs.Euclid.{lowest_lowest}
 use Rattle.decimal.specs.Decimal.{decimal_of}
@@ -42,7 +42,7 @@ module _ (l : Ledger) (sound : sound_ledger l ≡ true) (there : l.sheet.there �
   abbrev shown_decimal : Decimal
   shown_decimal = decimal_of (lowest_of (formula_of l index level set).top (formula_of l index level set).bottom) 2
 
-  somebody_shown : (divided_by l index level set ≡ 0 → ⊥) → shown_index l index level set 2 ≡ Is shown_decimal
+  somebody_shown : (divided_by l index level set ≡ 0 → ⊥) → shown_index l index level set 2 ≡ Ok shown_decimal
   somebody_shown n =
       let formula = formula_of l index level set in
       let exists = weighted_exists index (divided_by l index level set) n in
@@ -50,7 +50,7 @@ module _ (l : Ledger) (sound : sound_ledger l ≡ true) (there : l.sheet.there �
       else_shown (lowest_of formula.top formula.bottom) 2 (lowest_lowest formula.top formula.bottom (omega arith)).exists (omega arith)
 
   somebody_told : (divided_by l index level set ≡ 0 → ⊥) → index_text l index level set ≡ decimal_text shown_decimal
-  somebody_told n = ap (λ (s : Shown). 32 ∷ figure_text s) (somebody_shown n)
+  somebody_told n = ap (λ (s : Result Decimal Refusal). 32 ∷ figure_text s) (somebody_shown n)
 
   -- of a sound ledger with a sheet: - stands exactly where the index divides by 0, and else the nearest decimal of two digits
   pub dash_exactly_17 : Dashes l index level set

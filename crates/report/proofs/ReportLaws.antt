@@ -1,12 +1,16 @@
 -- A report is its lines one after the other, and fits its text whatever the ledger. Assumes nothing.
-use Prim.Native.Nat.{ℕ, ◌+◌, ◌≤◌}
+use Prim.Native.Nat.{ℕ, ◌+◌, ◌<◌, ◌≤◌}
+use Rattle.std.specs.Prelude.{Result, Ok, Err}
 use mathlib.Core.Path.{◌≡◌, refl, sym, ap, ◌∙◌}
 use mathlib.Core.Bool.{Bool, true, false, cond}
 use mathlib.Core.List.{List, [], ◌∷◌, ◌++◌, append-nil}
-use lib.ListN.{length, length-append}
+use lib.ListN.{length, length-append, get_or, take}
+use Rattle.std.specs.List.{flat_map}
+use Rattle.std.proofs.Common.{append_assoc}
+use Rattle.std.proofs.lemmas.List.{take_more, flat_map_more}
 use native.Mathlib.Omega.{arith}
-use Rattle.decimal.specs.declared.Shown.{Shown}
-use Rattle.decimal.specs.declared.Shown.TheVariants.{Is, Refused}
+use Rattle.refusals.specs.declared.Refusal.{Refusal}
+use Rattle.decimal.specs.declared.Decimal.{Decimal}
 use Rattle.codes.specs.declared.Set.{Set}
 use Rattle.codes.specs.declared.Set.TheVariants.{All, Std, Unnamed}
 use Rattle.ledger.specs.declared.Ledger.{Ledger}
@@ -19,19 +23,42 @@ use Rattle.index.specs.Index.{shown_index}
 use Rattle.text.specs.declared.Text.{Text}
 use Rattle.text.specs.Text.{text_of, pushed_all, number_text, two_text}
 use Rattle.text.proofs.TextLaws.{pushed_all_append, all_fits, number_length, both_short}
-use Rattle.report.specs.Report.{figure_text, level_word, set_word, index_text, line_text, year_text, head_text, lines_text, report_text, report_of}
+use Rattle.report.specs.Report.{figure_text, level_word, set_word, index_text, line_text, year_text, head_text, lines_text, report_text, told, report_of}
 
--- eight pieces, each pushed after the one before, are pushed as one
-pub eight_pieces :
-    (t : Text) {r₁ r₂ r₃ r₄ r₅ r₆ r₇ r₈ : Text} (a b c d e f g h : List ℕ) →
-    r₁ ≡ pushed_all t a → r₂ ≡ pushed_all r₁ b → r₃ ≡ pushed_all r₂ c → r₄ ≡ pushed_all r₃ d →
-    r₅ ≡ pushed_all r₄ e → r₆ ≡ pushed_all r₅ f → r₇ ≡ pushed_all r₆ g → r₈ ≡ pushed_all r₇ h →
-    r₈ ≡ pushed_all t (a ++ b ++ c ++ d ++ e ++ f ++ g ++ h)
-eight_pieces t a b c d e f g h p₁ p₂ p₃ p₄ p₅ p₆ p₇ p₈ = simp (pushed_all_append, p₈, p₇, p₆, p₅, p₄, p₃, p₂, p₁)
+-- what is pushed for some things in turn, and for one more
+pub one_more :
+    {X : Type 0} (f : X → List ℕ) (t r s : Text) (xs : List X) (i : ℕ) (d : X) →
+    i < length xs →
+    r ≡ pushed_all t (flat_map f (take i xs)) →
+    s ≡ pushed_all r (f (get_or xs i d)) →
+    s ≡ pushed_all t (flat_map f (take (i + 1) xs))
+one_more f t r s xs i d h p q =
+    let x = get_or xs i d in
+    q ∙ ap (λ (u : Text). pushed_all u (f x)) p ∙ sym (pushed_all_append t (flat_map f (take i xs)) (f x)) ∙
+    ap (pushed_all t) (flat_map_more f [] (take i xs) x ∙ ap (flat_map f) (sym (take_more xs i d h)))
 
-figure_length : (s : Shown) → length (figure_text s) ≤ 23
-figure_length (Is d) = both_short (number_text d.whole) (46 ∷ two_text d.digits) {n = 3} (number_length d.whole) (omega arith)
-figure_length (Refused n) = omega arith
+-- the lines of a set, level by level, and of some sets
+abbrev pub each_level : List Level
+each_level = NN ∷ VN ∷ VVN ∷ Network ∷ []
+
+abbrev pub level_lines : Ledger → Set → List Level → List ℕ
+level_lines l set levels = flat_map (λ (level : Level). line_text l level set) levels
+
+abbrev pub set_lines : Ledger → List Set → List ℕ
+set_lines l sets = flat_map (λ (set : Set). level_lines l set each_level) sets
+
+two_fours : (a b c d e f g h : List ℕ) → (a ++ (b ++ (c ++ (d ++ [])))) ++ ((e ++ (f ++ (g ++ (h ++ [])))) ++ []) ≡ a ++ b ++ c ++ d ++ e ++ f ++ g ++ h
+two_fours a b c d e f g h = simp (append_assoc, append-nil)
+
+-- the lines of both sets are the eight lines
+pub both_sets : (l : Ledger) → set_lines l (All ∷ Std ∷ []) ≡ lines_text l
+both_sets l =
+    let line : Level → Set → List ℕ = line_text l in
+    two_fours (line NN All) (line VN All) (line VVN All) (line Network All) (line NN Std) (line VN Std) (line VVN Std) (line Network Std)
+
+figure_length : (s : Result Decimal Refusal) → length (figure_text s) ≤ 23
+figure_length (Ok d) = both_short (number_text d.whole) (46 ∷ two_text d.digits) {n = 3} (number_length d.whole) (omega arith)
+figure_length (Err r) = omega arith
 
 level_length : (level : Level) → length (level_word level) ≤ 3
 level_length NN = omega arith
@@ -119,6 +146,6 @@ module _ (l : Ledger) where
   head_without_sheet refused e = ap (λ (b : Bool). head_text l refused ++ cond b (lines_text l) []) e ∙ append-nil (head_text l refused)
 
   -- so what was pushed from nothing on is the whole text
-  pub report_whole : (refused : ℕ) (t : Text) → t ≡ pushed_all (text_of []) (report_text l refused) → sound_ledger l ≡ true → record { answer = 0; text = t } ≡ report_of l refused
+  pub report_whole : (refused : ℕ) (t : Text) → t ≡ pushed_all (text_of []) (report_text l refused) → sound_ledger l ≡ true → told (Ok t) ≡ report_of l refused
   report_whole refused t p e =
-      ap (λ (s : Text). record { answer = 0; text = s }) (p ∙ all_fits (report_text l refused) (report_fits refused)) ∙ sym (sound_text refused e)
+      ap (λ (s : Text). told (Ok s)) (p ∙ all_fits (report_text l refused) (report_fits refused)) ∙ sym (sound_text refused e)

@@ -1,8 +1,9 @@
 -- The year report (01, "Worked year"): "First line: year, accepted events (short ones included), short events, refused records. Others: level, set,
 -- SAIFI, SAIDI, CAIDI; - where refusal 17 applies." "Without a sheet only the first line is printed, with - for the year."
-use Rattle.std.specs.Prelude.{ℕ, List, [], ◌∷◌, ◌++◌, Bool, cond}
-use Rattle.decimal.specs.declared.Shown.{Shown}
-use Rattle.decimal.specs.declared.Shown.TheVariants.{Is, Refused}
+use Rattle.std.specs.Prelude.{ℕ, List, [], ◌∷◌, ◌++◌, Bool, cond, Result, Ok, Err}
+use Rattle.refusals.specs.declared.Refusal.{Refusal}
+use Rattle.refusals.specs.Refusals.{number_of}
+use Rattle.decimal.specs.declared.Decimal.{Decimal}
 use Rattle.codes.specs.declared.Set.{Set}
 use Rattle.codes.specs.declared.Set.TheVariants.{All, Std, Unnamed}
 use Rattle.ledger.specs.declared.Ledger.{Ledger}
@@ -14,12 +15,21 @@ use Rattle.index.specs.declared.Index.TheVariants.{Saifi, Saidi, Caidi}
 use Rattle.index.specs.Index.{shown_index}
 use Rattle.text.specs.declared.Text.{Text}
 use Rattle.text.specs.Text.{text_of, pushed_all, number_text, two_text}
-use Rattle.report.specs.declared.Report.{Report}
+
+-- the answer number, and the text: 1 and no text for an unsound ledger
+pub record Report : Type 0 where
+  pub answer : ℕ
+  pub text : Text
+
+-- what a text or a refusal is in these words
+abbrev pub told : Result Text Refusal → Report
+told (Ok t) = record { answer = 0; text = t }
+told (Err r) = record { answer = number_of r; text = text_of [] }
 
 -- a figure with two decimals, or "-"
-abbrev pub figure_text : Shown → List ℕ
-figure_text (Is d) = number_text d.whole ++ (46 ∷ two_text d.digits)
-figure_text (Refused n) = 45 ∷ []
+abbrev pub figure_text : Result Decimal Refusal → List ℕ
+figure_text (Ok d) = number_text d.whole ++ (46 ∷ two_text d.digits)
+figure_text (Err r) = 45 ∷ []
 
 abbrev pub level_word : Level → List ℕ
 level_word NN = 78 ∷ 78 ∷ []
@@ -31,6 +41,10 @@ abbrev pub set_word : Set → List ℕ
 set_word All = 97 ∷ 108 ∷ 108 ∷ []
 set_word Std = 115 ∷ 116 ∷ 100 ∷ []
 set_word Unnamed = 115 ∷ 116 ∷ 100 ∷ []
+
+-- "NN all"
+abbrev pub name_text : Level → Set → List ℕ
+name_text level set = level_word level ++ (32 ∷ set_word set)
 
 -- " SAIFI"
 abbrev pub index_text : Ledger → Index → Level → Set → List ℕ

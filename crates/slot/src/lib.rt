@@ -4,9 +4,10 @@
 ghost use Rattle.std.specs.Prelude.{◌≡◌, true, ◌-◌, ◌≤◌};
 ghost use Rattle.annex.specs.Inside.{Ready};
 ghost use Rattle.slot.specs.Slot.{free_slot, opened_by, course_in, stepped_by};
-ghost use Rattle.slot.specs.Sound.{no_customers, no_halves, is_free, level_within, open_sound, slot_sound};
+ghost use Rattle.slot.specs.Sound.{no_customers, is_free, level_within, open_sound, slot_sound};
 
 use annex::{Course, Customers, Figures, HalfMinutes, Step};
+use codes::LEVELS;
 use fields::Head;
 
 // What the outage began with, the last step's time (T0 before the first), the steps taken, and the figures that they fold to.
@@ -19,19 +20,11 @@ pub struct Slot {
     pub figures: Figures,
 }
 
-// Whether all customers, or all half minutes, are zero.
-fn no_customers(f: Figures) -> bool
-    ensures { result ≡ no_customers f }
+// Whether all customers are zero.
+fn no_customers(figures: Figures) -> bool
+    ensures { result ≡ no_customers figures }
 {
-    let c = f.customers;
-    (c[0].0 == 0) & (c[1].0 == 0) & (c[2].0 == 0)
-}
-
-fn no_halves(f: Figures) -> bool
-    ensures { result ≡ no_halves f }
-{
-    let h = f.halves;
-    (h[0].0 == 0) & (h[1].0 == 0) & (h[2].0 == 0)
+    figures.customers.iter().all(|c| c.0 == 0)
 }
 
 // Whether a level's largest count and half minutes are within what so many minutes allow.
@@ -79,10 +72,9 @@ impl Slot {
     pub fn course(self) -> Course
         ensures { result ≡ course_in self }
     {
-        let figures = self.figures;
         Course {
             last: self.last,
-            figures,
+            figures: self.figures,
         }
     }
 
@@ -91,80 +83,65 @@ impl Slot {
         requires { Ready (course_in self) step × (self.steps ≤ 64) }
         ensures { result ≡ stepped_by self step }
     {
-        let head = self.head;
         let course = self.course().with(step);
-        let figures = course.figures;
         Slot {
-            head,
+            head: self.head,
             last: course.last,
             steps: self.steps + 1,
-            figures,
+            figures: course.figures,
         }
     }
 
     // Whether the slot holds zeros only. The figures are looked at only where all else is zero.
+    #[tactic(auto, unfolding(crate::specs::Sound::is_free))]
     pub fn is_free(self) -> bool
         ensures { result ≡ is_free self }
     {
-        let head = self.head;
-        let f = self.figures;
-        let unbegun = (head.number == 0)
-            & (head.typ == 0)
-            & (head.voltage == 0)
-            & (head.cause == 0)
-            & (head.t0 == 0)
+        let unbegun = (self.head.number == 0)
+            & (self.head.typ == 0)
+            & (self.head.voltage == 0)
+            & (self.head.cause == 0)
+            & (self.head.t0 == 0)
             & (self.last == 0)
             & (self.steps == 0);
-        if !unbegun {
-            return false;
-        }
-        if !no_customers(f) {
-            return false;
-        }
-        no_halves(f)
+        unbegun && no_customers(self.figures) && self.figures.halves.iter().all(|h| h.0 == 0)
     }
 
     // Whether the slot is sound as an open one. The first test that fails decides.
     pub fn open_sound(self) -> bool
         ensures { result ≡ open_sound self }
     {
-        let head = self.head;
-        let f = self.figures;
-        let c = f.customers;
-        let h = f.halves;
-        if !head.listed() {
+        if !self.head.listed() {
             return false;
         }
-        if (527040 <= head.t0)
-            | (self.last < head.t0)
+        if (527040 <= self.head.t0)
+            | (self.last < self.head.t0)
             | (codes::LATEST < self.last)
             | (64 < self.steps)
         {
             return false;
         }
-        let minutes = self.last - head.t0;
-        if !level_within(c[0], h[0], minutes) {
+        let minutes = self.last - self.head.t0;
+        for level in 0..LEVELS {
+            if !level_within(
+                self.figures.customers[level],
+                self.figures.halves[level],
+                minutes,
+            ) {
+                return false;
+            }
+        }
+        if limits::figures_above(self.figures, codes::level_of(self.head.voltage)) {
             return false;
         }
-        if !level_within(c[1], h[1], minutes) {
-            return false;
-        }
-        if !level_within(c[2], h[2], minutes) {
-            return false;
-        }
-        if limits::figures_above(f, codes::level_of(head.voltage)) {
-            return false;
-        }
-        (0 < self.steps) | ((self.last == head.t0) & no_customers(f))
+        (0 < self.steps) | ((self.last == self.head.t0) & no_customers(self.figures))
     }
 
     // Whether the slot is sound. Of a free one nothing more is asked.
+    #[tactic(auto, unfolding(crate::specs::Sound::slot_sound))]
     pub fn sound(self) -> bool
         ensures { result ≡ slot_sound self }
     {
-        if self.is_free() {
-            return true;
-        }
-        self.open_sound()
+        self.is_free() || self.open_sound()
     }
 }

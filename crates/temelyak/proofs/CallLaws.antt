@@ -1,7 +1,8 @@
 -- What the code of each call comes to is what its definition says: the ledger handed on stands for the words, and an output of another length is
 -- refused with 251. Assumes nothing.
 use Prim.Native.Nat.{ℕ, min}
-use mathlib.Core.Path.{◌≡◌, refl, sym, ap, ◌∙◌, subst⁻¹}
+use Rattle.std.specs.Prelude.{Result, Ok, Err}
+use mathlib.Core.Path.{◌≡◌, refl, sym, ap, ◌∙◌}
 use mathlib.Core.List.{List, [], ◌∷◌}
 use mathlib.Core.Bool.{Bool, true, false, cond}
 use lib.ListN.{length, get_or, drop}
@@ -10,31 +11,28 @@ use native.Mathlib.Nat.{min-eq_left, min-eq_right}
 use native.Mathlib.Omega.{arith}
 use borrow.Author.Tests.{eqb-true, eqb-false, ltb-true, ltb-false, lt-ltb}
 use Rattle.base.proofs.TestLaws.{Tested, holds, fails, test}
+use Rattle.refusals.specs.declared.Refusal.{Refusal}
+use Rattle.refusals.specs.declared.Refusal.TheVariants as refusal
+use Rattle.refusals.specs.Refusals.{answer_in}
 use Rattle.ratio.specs.declared.Fraction.{Fraction}
-use Rattle.ratio.specs.Lowest.{lowest_of}
-use Rattle.decimal.specs.declared.Shown.TheVariants as shown
+use Rattle.decimal.specs.declared.Decimal.{Decimal}
 use Rattle.decimal.specs.Decimal.{decimal_of, shown_of, decimally}
 use Rattle.codes.specs.declared.Set.{Set}
 use Rattle.ledger.specs.declared.Ledger.{Ledger}
-use Rattle.ledger.specs.declared.Taken.{Taken}
 use Rattle.ledger.specs.Ledger.{empty_ledger}
-use Rattle.ledger.specs.Take.{answer_of, map_after, taken_of}
+use Rattle.ledger.specs.Take.{Taken, answer_of, map_after, taken_of}
 use Rattle.book.specs.declared.Read.{Read}
 use Rattle.book.specs.Book.{read_of, map_read}
-use Rattle.index.specs.declared.Answer.{Answer}
-use Rattle.index.specs.declared.Answer.TheVariants.{Is, Refused}
 use Rattle.index.specs.declared.Index.{Index}
 use Rattle.index.specs.declared.Level.{Level}
-use Rattle.index.specs.Index.{formula_of, index_of, exactly, shown_answer, shown_index}
-use Rattle.index.specs.Answered.{Way, unsound, sheetless, divides_by_nobody, answered as is-answered}
-use Rattle.index.proofs.IndexLaws.{index_exactly}
+use Rattle.index.specs.Index.{index_of, exactly, shown_answer, shown_index}
 use Rattle.slot.specs.declared.Slot.{Slot}
 use Rattle.desk_rules.specs.Serve.{message_answer, map_served, desk_served, served_of}
 use Rattle.c_words.specs.Words.{ledger_words, words_fit, ledger_in, flag_of, words_of}
 use Rattle.c_words.specs.Header.{header_word, headed, answered, other_size, answered_into, if_accepted}
-use Rattle.c_words.specs.Inside.{no_ledger, lent_ledger, written, settled}
+use Rattle.c_words.specs.Inside.{no_ledger, lent_ledger, written, settled, words_in}
 use Rattle.c_words.proofs.LentLaws.{lent_answer, lent_output, lent_words, lent_kept}
-use Rattle.c_codes.specs.Named.{index_named, level_named, set_named, all_named}
+use Rattle.c_codes.specs.Named.{index_named, level_named, set_named, all_named, numbers_in}
 use Rattle.temelyak.specs.Calls.{is_pair, empty_answer, empty_words, take_answer, take_words, take_map, book_answer, book_words, book_map, book_out, serve_answer, serve_words, serve_map, serve_desk, index_answer, index_out, decimal_answer, decimal_out}
 use Rattle.temelyak.proofs.NoneLaws.{none_taken, none_read, none_served, none_indexed, map_kept, book_map_kept, served_map_kept, served_desk_kept}
 use Rattle.temelyak.specs.Inside.{handed_back}
@@ -71,14 +69,6 @@ into_accepts header p w n e = go (test p)
     go : Tested p → (p ≡ true) × (header ≡ header_word) × (w ≡ true) × (n ≡ 0)
     go (holds t) = let b = behind_accepts header w n (sym (paired header p w n t) ∙ e) in (t, b.0, b.1, b.2)
     go (fails t) = absurd (eqb-false 251 0 refl (behind_accepts header true other_size (sym (unpaired header p w n t) ∙ e)).2)
-
--- what is written counts only where the answer is 0
-pub as_accepted : {X : Type 0} (answer : ℕ) (x y same : X) → (answer ≡ 0 → x ≡ y) → if_accepted answer x same ≡ if_accepted answer y same
-as_accepted {X} answer x y same f = go (eqb answer 0) refl
-  where
-    go : (t : Bool) → eqb answer 0 ≡ t → cond t x same ≡ cond t y same
-    go true t = f (eqb-true answer 0 t)
-    go false t = refl
 
 -- ---- temelyak_empty
 
@@ -182,46 +172,36 @@ module _ (header : ℕ) (ws m b out : List ℕ) (p : is_pair out ≡ false) wher
 
 -- ---- temelyak_index and temelyak_decimal
 
--- the two numbers of an answer
-abbrev pub pair_in : List ℕ → List ℕ
-pair_in ns = get_or ns 1 0 ∷ get_or ns 2 0 ∷ []
+-- of an answer's numbers the first is answered, and the others are the words for the output
+pub answer_first : (x : Result (List ℕ) Refusal) → answer_in x ≡ get_or (numbers_in x) 0 0
+answer_first (Ok ns) = refl
+answer_first (Err r) = refl
+
+pub words_after : (x : Result (List ℕ) Refusal) → words_in x ≡ drop 1 (numbers_in x)
+words_after (Ok ns) = refl
+words_after (Err r) = refl
 
 -- what is answered of them
 abbrev answered_by : ℕ → List ℕ → List ℕ → List ℕ → ℕ
 answered_by header ws out ns = answered_into header (is_pair out) (words_fit ws) (get_or ns 0 0)
 
--- a call whose numbers are a function of the ledger it gets: answer first, then two, where the answer is 0
-module _ (nums : Ledger → List ℕ) (none : get_or (nums no_ledger) 0 0 ≡ 1) (two : (l : Ledger) → get_or (nums l) 0 0 ≡ 0 → pair_in (nums l) ≡ drop 1 (nums l)) (header : ℕ) (ws out : List ℕ) where
+-- a call whose numbers are a function of the ledger it gets: the answer first, then the words, which are written where the answer is 0
+module _ (nums : Ledger → List ℕ) (none : get_or (nums no_ledger) 0 0 ≡ 1) (header : ℕ) (ws out : List ℕ) where
   asked_paired : is_pair out ≡ true → answered_by header ws out (nums (ledger_in ws)) ≡ answered header (words_fit ws) (get_or (nums (ledger_in ws)) 0 0)
   asked_paired p = paired header (is_pair out) (words_fit ws) (get_or (nums (ledger_in ws)) 0 0) p
 
   numbers_answer : is_pair out ≡ true → headed header (get_or (nums (lent_ledger header ws)) 0 0) ≡ answered_by header ws out (nums (ledger_in ws))
   numbers_answer p = lent_answer header ws (λ l. get_or (nums l) 0 0) none ∙ sym (asked_paired p)
 
-  numbers_out : is_pair out ≡ true → if_accepted (headed header (get_or (nums (lent_ledger header ws)) 0 0)) (pair_in (nums (lent_ledger header ws))) out ≡ if_accepted (answered_by header ws out (nums (ledger_in ws))) (drop 1 (nums (ledger_in ws))) out
+  numbers_out : is_pair out ≡ true → if_accepted (headed header (get_or (nums (lent_ledger header ws)) 0 0)) (drop 1 (nums (lent_ledger header ws))) out ≡ if_accepted (answered_by header ws out (nums (ledger_in ws))) (drop 1 (nums (ledger_in ws))) out
   numbers_out p =
-      lent_output header ws (λ l. get_or (nums l) 0 0) (λ l. pair_in (nums l)) out none ∙
-      as_accepted (answered header (words_fit ws) (get_or (nums (ledger_in ws)) 0 0)) (pair_in (nums (ledger_in ws))) (drop 1 (nums (ledger_in ws))) out
-      (λ e. two (ledger_in ws) (behind_accepts header (words_fit ws) (get_or (nums (ledger_in ws)) 0 0) e).2) ∙
+      lent_output header ws (λ l. get_or (nums l) 0 0) (λ l. drop 1 (nums l)) out none ∙
       ap (λ n. if_accepted n (drop 1 (nums (ledger_in ws))) out) (sym (asked_paired p))
 
   numbers_unpaired : is_pair out ≡ false → (headed header other_size ≡ answered_by header ws out (nums (ledger_in ws))) × (out ≡ if_accepted (answered_by header ws out (nums (ledger_in ws))) (drop 1 (nums (ledger_in ws))) out)
   numbers_unpaired p =
       let e = unpaired header (is_pair out) (words_fit ws) (get_or (nums (ledger_in ws)) 0 0) p in
       (sym e, sym (ap (λ n. if_accepted n (drop 1 (nums (ledger_in ws))) out) e ∙ size_refused header (drop 1 (nums (ledger_in ws))) out))
-
--- an index that is answered 0 is a fraction
-pub exact_pair : (l : Ledger) (index : Index) (level : Level) (set : Set) → get_or (exactly (index_of l index level set)) 0 0 ≡ 0 → pair_in (exactly (index_of l index level set)) ≡ drop 1 (exactly (index_of l index level set))
-exact_pair l index level set = go (index_of l index level set) (index_exactly l index level set)
-  where
-    refuses : (n : ℕ) (a : Answer) → a ≡ Refused n → get_or (exactly a) 0 0 ≡ n
-    refuses n a e = ap (λ x. get_or (exactly x) 0 0) e
-
-    go : (a : Answer) → Way l index level set a → get_or (exactly a) 0 0 ≡ 0 → pair_in (exactly a) ≡ drop 1 (exactly a)
-    go a (unsound s e) z = absurd (omega (arith, z, refuses 1 a e))
-    go a (sheetless s t e) z = absurd (omega (arith, z, refuses 5 a e))
-    go a (divides_by_nobody s t n e) z = absurd (omega (arith, z, refuses 17 a e))
-    go a (is-answered s t n e) z = ap (λ x. pair_in (exactly x)) e ∙ sym (ap (λ x. drop 1 (exactly x)) e)
 
 module _ (index : Index) (level : Level) (set : Set) where
   none_exact : get_or (exactly (index_of no_ledger index level set)) 0 0 ≡ 1
@@ -230,53 +210,27 @@ module _ (index : Index) (level : Level) (set : Set) where
   none_shown : (digits : ℕ) → get_or (decimally (shown_index no_ledger index level set digits)) 0 0 ≡ 1
   none_shown digits = ap (λ a. get_or (decimally (shown_answer a digits)) 0 0) (none_indexed index level set)
 
--- a decimal that is answered 0 is one
-shown_pair : (f : Fraction) (digits : ℕ) → get_or (decimally (shown_of f digits)) 0 0 ≡ 0 → pair_in (decimally (shown_of f digits)) ≡ drop 1 (decimally (shown_of f digits))
-unfolding shown_of
-shown_pair f digits = go (eqb f.bottom 0) (ltb 6 digits)
-  where
-    go : (b d : Bool) →
-        get_or (decimally (cond b (shown.Refused 17) (cond d (shown.Refused 18) (shown.Is (decimal_of f digits))))) 0 0 ≡ 0 →
-        pair_in (decimally (cond b (shown.Refused 17) (cond d (shown.Refused 18) (shown.Is (decimal_of f digits))))) ≡ drop 1 (decimally (cond b (shown.Refused 17) (cond d (shown.Refused 18) (shown.Is (decimal_of f digits)))))
-    go true d z = absurd (eqb-false 17 0 refl z)
-    go false true z = absurd (eqb-false 18 0 refl z)
-    go false false z = refl
-
--- where a decimal is answered 0, just two numbers follow the answer
-pub decimal_pair : (l : Ledger) (index : Index) (level : Level) (set : Set) (digits : ℕ) →
-    get_or (decimally (shown_index l index level set digits)) 0 0 ≡ 0 → pair_in (decimally (shown_index l index level set digits)) ≡ drop 1 (decimally (shown_index l index level set digits))
-decimal_pair l index level set digits = go (index_of l index level set) (index_exactly l index level set)
-  where
-    refuses : (n : ℕ) (a : Answer) → a ≡ Refused n → get_or (decimally (shown_answer a digits)) 0 0 ≡ n
-    refuses n a e = ap (λ x. get_or (decimally (shown_answer x digits)) 0 0) e
-
-    go : (a : Answer) → Way l index level set a → get_or (decimally (shown_answer a digits)) 0 0 ≡ 0 → pair_in (decimally (shown_answer a digits)) ≡ drop 1 (decimally (shown_answer a digits))
-    go a (unsound s e) z = absurd (omega (arith, z, refuses 1 a e))
-    go a (sheetless s t e) z = absurd (omega (arith, z, refuses 5 a e))
-    go a (divides_by_nobody s t n e) z = absurd (omega (arith, z, refuses 17 a e))
-    go a (is-answered s t n e) z =
-        subst⁻¹ (λ x. get_or (decimally (shown_answer x digits)) 0 0 ≡ 0 → pair_in (decimally (shown_answer x digits)) ≡ drop 1 (decimally (shown_answer x digits))) e
-        (shown_pair (lowest_of (formula_of l index level set).top (formula_of l index level set).bottom) digits)
-        z
-
 -- 7 digits stand for any number of digits that is refused
 digits_cut : (f : Fraction) (digits : ℕ) → shown_of f (min digits 7) ≡ shown_of f digits
 unfolding shown_of
 digits_cut f digits = go (test (ltb digits 7))
   where
+    told : Bool → Bool → Result Decimal Refusal
+    told none many = cond none (Err refusal.Nobody) (cond many (Err refusal.Digits) (Ok (decimal_of f digits)))
+
     go : Tested (ltb digits 7) → shown_of f (min digits 7) ≡ shown_of f digits
     go (holds e) = ap (shown_of f) (min-eq_left {n = digits} {m = 7} (omega (arith, ltb-true digits 7 e)))
     go (fails e) =
         ap (shown_of f) (min-eq_right {n = 7} {m = digits} (ltb-false digits 7 e)) ∙
-        sym (ap (λ t. cond (eqb f.bottom 0) (shown.Refused 17) (cond t (shown.Refused 18) (shown.Is (decimal_of f digits)))) (lt-ltb 6 digits (omega (arith, ltb-false digits 7 e))))
+        sym (ap (λ t. told (eqb f.bottom 0) t) (lt-ltb 6 digits (omega (arith, ltb-false digits 7 e))))
 
 -- a number of digits above 7 may be cut to 7: what is shown is the same
 pub shown_cut : (l : Ledger) (index : Index) (level : Level) (set : Set) (digits : ℕ) → shown_index l index level set (min digits 7) ≡ shown_index l index level set digits
 shown_cut l index level set digits = go (index_of l index level set)
   where
-    go : (a : Answer) → shown_answer a (min digits 7) ≡ shown_answer a digits
-    go (Is f) = digits_cut f digits
-    go (Refused n) = refl
+    go : (a : Result Fraction Refusal) → shown_answer a (min digits 7) ≡ shown_answer a digits
+    go (Ok f) = digits_cut f digits
+    go (Err r) = refl
 
 -- 255 for a code that names none comes before all else; then an output of another length
 module _ (header : ℕ) (ws : List ℕ) (index level set : ℕ) (out : List ℕ) where
@@ -295,17 +249,17 @@ module _ (header : ℕ) (ws : List ℕ) (index level set : ℕ) (out : List ℕ)
     -- with an output of two words, answer and output are as the ledger handed on has them
     pub index_paired : is_pair out ≡ true →
         (headed header (get_or (index_numbers (lent_ledger header ws)) 0 0) ≡ index_answer header ws index level set out) ×
-        (if_accepted (headed header (get_or (index_numbers (lent_ledger header ws)) 0 0)) (pair_in (index_numbers (lent_ledger header ws))) out ≡ index_out header ws index level set out)
+        (if_accepted (headed header (get_or (index_numbers (lent_ledger header ws)) 0 0)) (drop 1 (index_numbers (lent_ledger header ws))) out ≡ index_out header ws index level set out)
     unfolding index_out
     index_paired p = (
-      numbers_answer index_numbers (none_exact (index_named index) (level_named level) (set_named set)) (λ l. exact_pair l (index_named index) (level_named level) (set_named set)) header ws out p ∙ index_named_lem,
-      numbers_out index_numbers (none_exact (index_named index) (level_named level) (set_named set)) (λ l. exact_pair l (index_named index) (level_named level) (set_named set)) header ws out p ∙ ap (λ n. if_accepted n (drop 1 (index_numbers (ledger_in ws))) out) index_named_lem,
+      numbers_answer index_numbers (none_exact (index_named index) (level_named level) (set_named set)) header ws out p ∙ index_named_lem,
+      numbers_out index_numbers (none_exact (index_named index) (level_named level) (set_named set)) header ws out p ∙ ap (λ n. if_accepted n (drop 1 (index_numbers (ledger_in ws))) out) index_named_lem,
     )
 
     pub index_unpaired : is_pair out ≡ false → (headed header other_size ≡ index_answer header ws index level set out) × (out ≡ index_out header ws index level set out)
     unfolding index_out
     index_unpaired p =
-        let u = numbers_unpaired index_numbers (none_exact (index_named index) (level_named level) (set_named set)) (λ l. exact_pair l (index_named index) (level_named level) (set_named set)) header ws out p in
+        let u = numbers_unpaired index_numbers (none_exact (index_named index) (level_named level) (set_named set)) header ws out p in
         (u.0 ∙ index_named_lem, u.1 ∙ ap (λ n. if_accepted n (drop 1 (index_numbers (ledger_in ws))) out) index_named_lem)
 
 module _ (header : ℕ) (ws : List ℕ) (index level set digits : ℕ) (out : List ℕ) where
@@ -324,15 +278,15 @@ module _ (header : ℕ) (ws : List ℕ) (index level set digits : ℕ) (out : Li
 
     pub decimal_paired : is_pair out ≡ true →
         (headed header (get_or (decimal_numbers (lent_ledger header ws)) 0 0) ≡ decimal_answer header ws index level set digits out) ×
-        (if_accepted (headed header (get_or (decimal_numbers (lent_ledger header ws)) 0 0)) (pair_in (decimal_numbers (lent_ledger header ws))) out ≡ decimal_out header ws index level set digits out)
+        (if_accepted (headed header (get_or (decimal_numbers (lent_ledger header ws)) 0 0)) (drop 1 (decimal_numbers (lent_ledger header ws))) out ≡ decimal_out header ws index level set digits out)
     unfolding decimal_out
     decimal_paired p = (
-      numbers_answer decimal_numbers (none_shown (index_named index) (level_named level) (set_named set) digits) (λ l. decimal_pair l (index_named index) (level_named level) (set_named set) digits) header ws out p ∙ decimal_named,
-      numbers_out decimal_numbers (none_shown (index_named index) (level_named level) (set_named set) digits) (λ l. decimal_pair l (index_named index) (level_named level) (set_named set) digits) header ws out p ∙ ap (λ n. if_accepted n (drop 1 (decimal_numbers (ledger_in ws))) out) decimal_named,
+      numbers_answer decimal_numbers (none_shown (index_named index) (level_named level) (set_named set) digits) header ws out p ∙ decimal_named,
+      numbers_out decimal_numbers (none_shown (index_named index) (level_named level) (set_named set) digits) header ws out p ∙ ap (λ n. if_accepted n (drop 1 (decimal_numbers (ledger_in ws))) out) decimal_named,
     )
 
     pub decimal_unpaired : is_pair out ≡ false → (headed header other_size ≡ decimal_answer header ws index level set digits out) × (out ≡ decimal_out header ws index level set digits out)
     unfolding decimal_out
     decimal_unpaired p =
-        let u = numbers_unpaired decimal_numbers (none_shown (index_named index) (level_named level) (set_named set) digits) (λ l. decimal_pair l (index_named index) (level_named level) (set_named set) digits) header ws out p in
+        let u = numbers_unpaired decimal_numbers (none_shown (index_named index) (level_named level) (set_named set) digits) header ws out p in
         (u.0 ∙ decimal_named, u.1 ∙ ap (λ n. if_accepted n (drop 1 (decimal_numbers (ledger_in ws))) out) decimal_named)

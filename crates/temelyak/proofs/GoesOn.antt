@@ -21,8 +21,7 @@ use Rattle.used_numbers.specs.Marks.{map_size}
 use Rattle.fields.specs.Fields.{sheet_in, head_in, simple_in, steps_in}
 use Rattle.fields.specs.declared.Sheet.{Sheet}
 use Rattle.fields.specs.Tests.{in_range}
-use Rattle.verdict.specs.declared.Verdict.{Verdict}
-use Rattle.verdict.specs.Verdict.{sheet_verdict, event_verdict}
+use Rattle.verdict.specs.Verdict.{Verdict, sheet_verdict, event_verdict}
 use Rattle.record.specs.Verdict.{accepted_at, verdict_of}
 use Rattle.ledger.specs.declared.Ledger.{Ledger}
 use Rattle.ledger.specs.Ledger.{empty_ledger, added}

@@ -1,6 +1,7 @@
 -- Each call behind refuses the ledger that stands for none with 1, and on any refusal leaves map and desk as they were: what `LentLaws` of `c_words` asks of
 -- a call. Assumes nothing.
 use Prim.Native.Nat.{ℕ}
+use Rattle.std.specs.Prelude.{Err}
 use mathlib.Core.Path.{◌≡◌, ap}
 use mathlib.Core.List.{List, ◌∷◌}
 use mathlib.Core.Bool.{◌||◌, not, cond}
@@ -14,7 +15,7 @@ use Rattle.ledger.proofs.TakeLaws.{answer_1, refused_hands_back}
 use Rattle.book.specs.declared.Read.{Read}
 use Rattle.book.specs.Book.{read_of, map_read}
 use Rattle.book.proofs.RunLaws.{read_nothing, read_through}
-use Rattle.index.specs.declared.Answer.TheVariants.{Refused}
+use Rattle.refusals.specs.declared.Refusal.TheVariants as refusal
 use Rattle.index.specs.declared.Index.{Index}
 use Rattle.index.specs.declared.Level.{Level}
 use Rattle.index.specs.Index.{index_of}
@@ -40,7 +41,7 @@ pub none_served : (m : List ℕ) (d : List Slot) (s : List ℕ) → message_answ
 unfolding message_answer look_answer
 none_served m d s = ap (λ t. cond (t || not (look_at d s).sound) 1 (first ((2, unframed s) ∷ rules_at (kind_of s) (look_at d s) no_ledger m s))) (none_refused m)
 
-pub none_indexed : (index : Index) (level : Level) (set : Set) → index_of no_ledger index level set ≡ Refused 1
+pub none_indexed : (index : Index) (level : Level) (set : Set) → index_of no_ledger index level set ≡ Err refusal.Unsound
 none_indexed index level set = unsound_refused no_ledger index level set none_unsound
 
 -- ---- what each leaves on a refusal

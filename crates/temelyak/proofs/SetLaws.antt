@@ -1,12 +1,14 @@
 -- A call that names no set (TEMELYAK_SET_UNNAMED) answers and writes what the same call for 'std' (TEMELYAK_SET_STD) does. Assumes nothing.
 use Prim.Native.Nat.{ℕ}
+use Rattle.std.specs.Prelude.{Result}
 use mathlib.Core.Path.{◌≡◌, ap}
 use mathlib.Core.List.{List}
 use mathlib.Core.Bool.{cond}
 use lib.ListN.{get_or, drop}
-use Rattle.decimal.specs.declared.Shown.{Shown}
+use Rattle.refusals.specs.declared.Refusal.{Refusal}
+use Rattle.ratio.specs.declared.Fraction.{Fraction}
+use Rattle.decimal.specs.declared.Decimal.{Decimal}
 use Rattle.decimal.specs.Decimal.{decimally}
-use Rattle.index.specs.declared.Answer.{Answer}
 use Rattle.index.specs.Index.{exactly}
 use Rattle.index.proofs.IndexLaws.{unnamed_means_std, shown_unnamed}
 use Rattle.c_words.specs.Words.{words_fit, ledger_in}
@@ -36,7 +38,7 @@ module _ (header : ℕ) (ws : List ℕ) (index level : ℕ) (out : List ℕ) whe
       (index_answer header ws index level unnamed out ≡ index_answer header ws index level std out) ×
       (index_out header ws index level unnamed out ≡ index_out header ws index level std out)
   unfolding index_answer index_out
-  index_without_set = (ap (λ (a : Answer). answer (exactly a)) same_index, ap (λ (a : Answer). output (exactly a)) same_index)
+  index_without_set = (ap (λ (a : Result Fraction Refusal). answer (exactly a)) same_index, ap (λ (a : Result Fraction Refusal). output (exactly a)) same_index)
 
   same_decimal : (digits : ℕ) → decimal_asked ws index level unnamed digits ≡ decimal_asked ws index level std digits
   same_decimal digits = shown_unnamed (ledger_in ws) (index_named index) (level_named level) digits
@@ -46,4 +48,4 @@ module _ (header : ℕ) (ws : List ℕ) (index level : ℕ) (out : List ℕ) whe
       (decimal_out header ws index level unnamed digits out ≡ decimal_out header ws index level std digits out)
   unfolding decimal_answer decimal_out
   decimal_without_set digits =
-      (ap (λ (s : Shown). answer (decimally s)) (same_decimal digits), ap (λ (s : Shown). output (decimally s)) (same_decimal digits))
+      (ap (λ (s : Result Decimal Refusal). answer (decimally s)) (same_decimal digits), ap (λ (s : Result Decimal Refusal). output (decimally s)) (same_decimal digits))

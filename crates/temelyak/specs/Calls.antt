@@ -1,14 +1,15 @@
 -- What each call of include/temelyak.h answers, and what it leaves in all that was lent, by the call behind it.
-use Rattle.std.specs.Prelude.{ℕ, List, [], ◌∷◌, Bool, true, cond, ◌≡◌, length, get_or, drop, eqb}
+use Rattle.std.specs.Prelude.{ℕ, List, [], ◌∷◌, Bool, true, cond, ◌≡◌, length, get_or, drop, eqb, Result}
 use Rattle.used_numbers.specs.Marks.{map_size}
-use Rattle.decimal.specs.declared.Shown.{Shown}
+use Rattle.refusals.specs.declared.Refusal.{Refusal}
+use Rattle.ratio.specs.declared.Fraction.{Fraction}
+use Rattle.decimal.specs.declared.Decimal.{Decimal}
 use Rattle.decimal.specs.Decimal.{decimally}
 use Rattle.ledger.specs.declared.Ledger.{Ledger}
 use Rattle.ledger.specs.Ledger.{empty_ledger}
 use Rattle.ledger.specs.Take.{answer_of, ledger_after, map_after}
 use Rattle.book.specs.declared.Read.{Read}
 use Rattle.book.specs.Book.{read_of, map_read}
-use Rattle.index.specs.declared.Answer.{Answer}
 use Rattle.index.specs.Index.{index_of, exactly, shown_index}
 use Rattle.slot.specs.declared.Slot.{Slot}
 use Rattle.desk_scan.specs.Desk.{slot_count}
@@ -74,7 +75,7 @@ serve_desk header ws m d s = if_accepted (serve_answer header ws m d s) (desk_se
 
 -- ---- temelyak_index and temelyak_decimal: words ws, output out; 255 for a code that names none comes before all else
 
-abbrev pub index_asked : List ℕ → ℕ → ℕ → ℕ → Answer
+abbrev pub index_asked : List ℕ → ℕ → ℕ → ℕ → Result Fraction Refusal
 index_asked ws index level set = index_of (ledger_in ws) (index_named index) (level_named level) (set_named set)
 
 unfoldable pub index_answer : ℕ → List ℕ → ℕ → ℕ → ℕ → List ℕ → ℕ
@@ -85,7 +86,7 @@ index_answer header ws index level set out =
 unfoldable pub index_out : ℕ → List ℕ → ℕ → ℕ → ℕ → List ℕ → List ℕ
 index_out header ws index level set out = if_accepted (index_answer header ws index level set out) (drop 1 (exactly (index_asked ws index level set))) out
 
-abbrev pub decimal_asked : List ℕ → ℕ → ℕ → ℕ → ℕ → Shown
+abbrev pub decimal_asked : List ℕ → ℕ → ℕ → ℕ → ℕ → Result Decimal Refusal
 decimal_asked ws index level set digits = shown_index (ledger_in ws) (index_named index) (level_named level) (set_named set) digits
 
 unfoldable pub decimal_answer : ℕ → List ℕ → ℕ → ℕ → ℕ → ℕ → List ℕ → ℕ

@@ -1,6 +1,6 @@
 -- Inner vocabulary: what the desk answers, as `c_words::settle` takes it.
-use Rattle.ledger.specs.declared.Taken.{Taken}
-use Rattle.desk_rules.specs.declared.Served.{Served}
+use Rattle.ledger.specs.Take.{Taken}
+use Rattle.desk_rules.specs.Plan.{Served}
 
 abbrev pub handed_back : Served → Taken
 handed_back x = record { answer = x.answer; ledger = x.ledger }

@@ -11,7 +11,7 @@ use borrow.Author.Tests.{ne_eqb}
 use Rattle.base.specs.Lists.{All, Bytes}
 use Rattle.base.proofs.ListLaws.{all_append}
 use Rattle.wire.specs.Cut.{records_of, stop_from}
-use Rattle.text_items.specs.declared.Entry.{Entry}
+use Rattle.text_items.specs.Entry.{Entry}
 use Rattle.text_write.specs.Line.{line_of}
 use Rattle.unpack.specs.Unpack.{kind_in, unpacked_of, bytes_entry, year_after}
 use Rattle.text_back.specs.Text.{bytes_lines_in, bytes_lines, record_lines, book_lines, book_text, written, right, spoken}

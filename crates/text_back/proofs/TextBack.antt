@@ -15,7 +15,7 @@ use Rattle.base.proofs.TestLaws.{Tested, holds, fails, test}
 use Rattle.base.proofs.ListLaws.{all_append, all_front, all_back, all_take, all_drop}
 use Rattle.wire.specs.Cut.{records_of, stop_from, joined}
 use Rattle.wire.proofs.CutLaws.{records_joined}
-use Rattle.text_items.specs.declared.Entry.{Entry}
+use Rattle.text_items.specs.Entry.{Entry}
 use Rattle.text_items.specs.Shape.{whole_of, within_from, entry_of, no_entry, item_of}
 use Rattle.text_scan.specs.Scan.{is_gap, gaps_in}
 use Rattle.text_parse.specs.Entry.{parsed_of, word_text}

@@ -1,2 +1,3 @@
+pub mod SortLaws
 pub mod ShapeLaws
 pub mod OneOutcome

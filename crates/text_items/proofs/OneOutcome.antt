@@ -1,6 +1,7 @@
 -- No second outcome meets what a public function of this crate promises. Assumes nothing.
 use mathlib.Core.Path.{refl}
 use Rattle.base.proofs.OneOutcome.{OneOutcome, alike}
+use Rattle.text_items.proofs.SortLaws.{same_item}
 use Rattle.text_items.proofs.item_of.Kinds as item-of-kinds
 use Rattle.text_items.proofs.item_of.Reads as item_of
 use Rattle.text_items.proofs.most_of.Kinds as most-of-kinds
@@ -11,7 +12,7 @@ use Rattle.text_items.proofs.bar_before.Kinds as bar-before-kinds
 use Rattle.text_items.proofs.bar_before.Reads as bar-before
 
 pub item_of_one : OneOutcome item-of-kinds.ps item-of-kinds.r item_of.Post
-item_of_one κs a x y v w p q = (alike p q, refl)
+item_of_one κs a x y v w p q = (same_item x y (alike p q), refl)
 
 pub most_of_one : OneOutcome most-of-kinds.ps most-of-kinds.r most-of.Post
 most_of_one κs a x y v w p q = (alike p q, refl)

@@ -1,7 +1,7 @@
 -- The lines of a book's text (docs/TEXT.md): which items stand in a line of each sort. The items are the fields of 01's table ("Bytes on the wire") in
 -- their order; the step count is not written, as the line's own steps are counted.
 use Rattle.std.specs.Prelude.{ℕ, ◌+◌, ◌-◌, ◌%◌, List, [], ◌∷◌, ◌++◌, Bool, true, false, ◌&&◌, cond, eqb, ltb, leb, length, replicate}
-use Rattle.text_items.specs.declared.Entry.{Entry}
+use Rattle.text_items.specs.Entry.{Entry}
 
 -- the sorts of line: 1 a sheet, 2 a simple event, 3 a stepped event, 4 bytes in hexadecimal digits; and of item: a number of 1 byte, of 2 bytes and of 4
 -- bytes, 4 a time, 5 two hexadecimal digits

@@ -1,142 +1,97 @@
 // The lines of a book's text: which items stand in a line of each sort, one after the other.
-#![tactic(auto)]
+#![tactic(auto, unfolding(crate::specs::Shape::event_item, crate::specs::Shape::item_of, crate::specs::Shape::most_of, crate::specs::Shape::whole_of, crate::specs::Shape::bar_before))]
 
 ghost use Rattle.std.specs.Prelude.{◌≡◌};
 ghost use Rattle.text_items.specs.Shape.{item_of, most_of, whole_of, bar_before};
+ghost use Rattle.text_items.specs.Sorts.{sort_number, item_number};
 
-// The sorts of line. The first three are the kinds of the record that they stand for; a line of bytes stands for what no other line expresses.
-pub const BLANK: u8 = 0;
-
-pub const SHEET: u8 = 1;
-
-pub const SIMPLE: u8 = 2;
-
-pub const STEPPED: u8 = 3;
-
-pub const HEX: u8 = 4;
+// The sorts of line. A sheet, a simple and a stepped event are the records that they stand for; a line of bytes stands for what no other line expresses.
+#[derive(Clone, Copy, Debug, PartialEq, Eq)]
+pub enum Sort {
+    Blank,
+    Sheet,
+    Simple,
+    Stepped,
+    Hex,
+}
 
 // The sorts of item: a number of 1, of 2 and of 4 bytes, a time, and two hexadecimal digits.
-pub const BYTE: u8 = 1;
-
-pub const PAIR: u8 = 2;
-
-pub const COUNT: u8 = 3;
-
-pub const TIME: u8 = 4;
-
-pub const DIGITS: u8 = 5;
+#[derive(Clone, Copy, Debug, PartialEq, Eq)]
+pub enum Item {
+    Byte,
+    Pair,
+    Count,
+    Time,
+    Digits,
+}
 
 // What a line says: its sort, and the numbers of its items, as many as a stepped event of 64 steps has; those past them are 0.
 #[derive(Clone, Copy)]
 pub struct Entry {
-    pub kind: u8,
+    pub kind: Sort,
     pub count: usize,
     pub values: [u32; 261],
 }
 
 // The sort of an item of an event's line.
-fn event_item(kind: u8, k: usize) -> u8
-    ensures { result ≡ Rattle.text_items.specs.Shape.event_item kind k }
+fn event_item(kind: Sort, k: usize) -> Item
+    ensures { item_number result ≡ Rattle.text_items.specs.Shape.event_item (sort_number kind) k }
 {
-    if k == 0 {
-        return PAIR;
+    match k {
+        0 => Item::Pair,
+        1..=3 => Item::Byte,
+        4 => Item::Time,
+        5..=8 if kind == Sort::Simple => Item::Time,
+        _ if kind == Sort::Simple => Item::Count,
+        _ if (k - 5) % 4 == 0 => Item::Time,
+        _ => Item::Count,
     }
-    if k < 4 {
-        return BYTE;
-    }
-    if k == 4 {
-        return TIME;
-    }
-    if kind == SIMPLE {
-        if k < 9 {
-            return TIME;
-        }
-        return COUNT;
-    }
-    if (k - 5) % 4 == 0 { TIME } else { COUNT }
 }
 
 // The sort of an item, by its place in the line.
-pub fn item_of(kind: u8, k: usize) -> u8
-    ensures { result ≡ item_of kind k }
+pub fn item_of(kind: Sort, k: usize) -> Item
+    ensures { item_number result ≡ item_of (sort_number kind) k }
 {
-    if kind == HEX {
-        return DIGITS;
+    match kind {
+        Sort::Hex => Item::Digits,
+        Sort::Sheet if k == 0 => Item::Pair,
+        Sort::Sheet => Item::Count,
+        Sort::Blank | Sort::Simple | Sort::Stepped => event_item(kind, k),
     }
-    if kind == SHEET {
-        if k == 0 {
-            return PAIR;
-        }
-        return COUNT;
-    }
-    event_item(kind, k)
 }
 
 // How many items a line has at most.
-pub fn most_of(kind: u8) -> usize
-    ensures { result ≡ most_of kind }
+pub fn most_of(kind: Sort) -> usize
+    ensures { result ≡ most_of (sort_number kind) }
 {
-    if kind == SHEET {
-        return 4;
+    match kind {
+        Sort::Blank => 0,
+        Sort::Sheet => 4,
+        Sort::Simple => 15,
+        Sort::Stepped => 261,
+        Sort::Hex => 32,
     }
-    if kind == SIMPLE {
-        return 15;
-    }
-    if kind == STEPPED {
-        return 261;
-    }
-    if kind == HEX {
-        return 32;
-    }
-    0
 }
 
 // Whether a line of so many items is whole.
-pub fn is_whole(kind: u8, count: usize) -> bool
-    ensures { result ≡ whole_of kind count }
+pub fn is_whole(kind: Sort, count: usize) -> bool
+    ensures { result ≡ whole_of (sort_number kind) count }
 {
-    if kind == STEPPED {
-        if count < 9 {
-            return false;
-        }
-        if 261 < count {
-            return false;
-        }
-        return (count - 5) % 4 == 0;
+    match kind {
+        Sort::Stepped => 9 <= count && count <= 261 && (count - 5) % 4 == 0,
+        Sort::Hex => 1 <= count && count <= 32,
+        Sort::Blank | Sort::Sheet | Sort::Simple => count != 0 && count == most_of(kind),
     }
-    if kind == HEX {
-        if count == 0 {
-            return false;
-        }
-        return count <= 32;
-    }
-    if count == 0 {
-        return false;
-    }
-    count == most_of(kind)
 }
 
 // Whether a bar parts an item from those before it.
-pub fn bar_before(kind: u8, k: usize) -> bool
-    ensures { result ≡ bar_before kind k }
+pub fn bar_before(kind: Sort, k: usize) -> bool
+    ensures { result ≡ bar_before (sort_number kind) k }
 {
-    if kind == SHEET {
-        return k == 1;
+    match kind {
+        Sort::Sheet => k == 1,
+        Sort::Hex => false,
+        Sort::Simple => k == 4 || 9 <= k && k % 3 == 0,
+        Sort::Blank | Sort::Stepped => k == 4 || 4 < k && (k - 5) % 4 == 0,
     }
-    if kind == HEX {
-        return false;
-    }
-    if k < 4 {
-        return false;
-    }
-    if k == 4 {
-        return true;
-    }
-    if kind == SIMPLE {
-        if k < 9 {
-            return false;
-        }
-        return k % 3 == 0;
-    }
-    (k - 5) % 4 == 0
 }

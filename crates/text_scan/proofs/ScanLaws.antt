@@ -9,7 +9,9 @@ use lib.Seq.{take_all, drop-cons}
 use native.Mathlib.Omega.{arith}
 use native.Mathlib.Numerals.{add-one}
 use borrow.Author.Tests.{ltb-true, ltb-false, le-ltb, not-false}
-use Rattle.base.proofs.TestLaws.{Tested, holds, fails, test, and_right}
+use Rattle.base.proofs.TestLaws.{Tested, holds, fails, test, and_left, and_right}
+use Rattle.std.specs.Prelude.{Option, Some, None, unwrap_or}
+use Rattle.std.specs.List.{position_or_len}
 use Rattle.wire.specs.Numbers.{byte_at}
 use Rattle.wire.specs.Book.{part_of}
 use Rattle.text_scan.specs.declared.Found.{Found}
@@ -34,16 +36,6 @@ first_ends [] h = absurd (h refl)
 first_ends (b ∷ s) h = refl
 
 module _ (s : List ℕ) (i : ℕ) where
-  -- a gap more, the end of the gaps, and the end of the line
-  pub gap_goes : i < length s → is_gap (get_or s i 0) ≡ true → i + gaps_in (drop i s) ≡ i + 1 + gaps_in (drop (i + 1) s)
-  gap_goes h e = rw (add-one, drop-cons s i 0, e) (omega arith)
-
-  pub gap_stops : i < length s → is_gap (get_or s i 0) ≡ false → i + gaps_in (drop i s) ≡ i
-  gap_stops h e = rw (drop-cons s i 0, e) (omega arith)
-
-  pub gap_ends : length s ≤ i → i + gaps_in (drop i s) ≡ i
-  gap_ends h = rw (drop_of_length-le s h) (omega arith)
-
   -- a digit more, the end of the digits, and the end of the line
   pub digit_goes : (value : ℕ) → i < length s → is_digit (get_or s i 0) ≡ true → digits_from value i (drop i s) ≡ digits_from (grown value (get_or s i 0)) (i + 1) (drop (i + 1) s)
   digit_goes value h e = ap (digits_from value i) (drop-cons s i 0 h) ∙ rw (e, add-one) refl
@@ -54,16 +46,23 @@ module _ (s : List ℕ) (i : ℕ) where
   pub digit_ends : (value : ℕ) → length s ≤ i → digits_from value i (drop i s) ≡ record { value = value; used = i }
   digit_ends value h = rw (drop_of_length-le s h) refl
 
--- the first byte of a sort: one more that is none, the first, and the end
-module _ (p : ℕ → Bool) (s : List ℕ) (i : ℕ) where
-  pub first_goes : i < length s → p (get_or s i 0) ≡ false → i + first_of p (drop i s) ≡ i + 1 + first_of p (drop (i + 1) s)
-  first_goes h e = rw (add-one, drop-cons s i 0, e) (omega arith)
+-- the library's place of the first byte of a sort, or the length, is that of the definition
+pub first_is : (p : ℕ → Bool) (s : List ℕ) → position_or_len p s ≡ first_of p s
+first_is p [] = refl
+first_is p (b ∷ s) = go (first_is p s) (test (p b))
+  where
+    go : position_or_len p s ≡ first_of p s → Tested (p b) → position_or_len p (b ∷ s) ≡ first_of p (b ∷ s)
+    go h (holds e) = rw e refl
+    go h (fails e) = rw e (omega (arith, h))
 
-  pub first_stops : i < length s → p (get_or s i 0) ≡ true → i + first_of p (drop i s) ≡ i
-  first_stops h e = rw (drop-cons s i 0, e) (omega arith)
-
-  pub first_none : length s ≤ i → i + first_of p (drop i s) ≡ i
-  first_none h = rw (drop_of_length-le s h) (omega arith)
+-- the gaps in front end at the first byte that is none
+pub gaps_are : (s : List ℕ) → first_of (λ (b : ℕ). not (is_gap b)) s ≡ gaps_in s
+gaps_are [] = refl
+gaps_are (b ∷ s) = go (gaps_are s) (test (is_gap b))
+  where
+    go : first_of (λ (b : ℕ). not (is_gap b)) s ≡ gaps_in s → Tested (is_gap b) → first_of (λ (b : ℕ). not (is_gap b)) (b ∷ s) ≡ gaps_in (b ∷ s)
+    go h (holds e) = rw e (omega (arith, h))
+    go h (fails e) = rw e refl
 
 -- it stands within the line, or its place is the line's length
 pub first_short : (p : ℕ → Bool) (s : List ℕ) → first_of p s ≤ length s
@@ -73,6 +72,14 @@ first_short p (b ∷ s) = go (first_short p s) (test (p b))
     go : first_of p s ≤ length s → Tested (p b) → first_of p (b ∷ s) ≤ length (b ∷ s)
     go h (holds e) = rw e (omega arith)
     go h (fails e) = rw e (omega arith)
+
+-- what the library's `position` tells of a line, with the length where it tells none
+pub first_told : (p : ℕ → Bool) (s : List ℕ) (told : Option ℕ) → told ≡ cond (ltb (position_or_len p s) (length s)) (Some (position_or_len p s)) None → unwrap_or told (length s) ≡ first_of p s
+first_told p s told e = ap (λ (o : Option ℕ). unwrap_or o (length s)) e ∙ go (test (ltb (position_or_len p s) (length s)))
+  where
+    go : Tested (ltb (position_or_len p s) (length s)) → unwrap_or (cond (ltb (position_or_len p s) (length s)) (Some (position_or_len p s)) None) (length s) ≡ first_of p s
+    go (holds h) = rw h (first_is p s)
+    go (fails h) = rw h (omega (arith, ltb-false (position_or_len p s) (length s) h, first_short p s, first_is p s))
 
 -- a line's separator: at a comment, at one of the three, past any other byte, and at the line's end
 module _ (s : List ℕ) (i : ℕ) where
@@ -118,10 +125,10 @@ module _ (gap : List ℕ) (sep : ℕ) (due : Bool) where
         unfolding gap_said
         gap_right t = rw (gap_said, same, item, one, t)
 
--- no two digits are looked for past the first 16 places
-pub none_far : (s : List ℕ) (at : ℕ) → 16 ≤ at → two_stand s at ≡ false
+-- two digits are looked for at the first 16 places alone
+pub near_stand : (s : List ℕ) (at : ℕ) → two_stand s at ≡ true → at < 16
 unfolding two_stand
-none_far s at h = rw (two_stand, le-ltb at 16 h) refl
+near_stand s at e = ltb-true at 16 (and_left (ltb at 16) (is_digit (byte_at s at)) (and_left (ltb at 16 && is_digit (byte_at s at)) (is_digit (byte_at s (at + 1))) e))
 
 -- what is read of either of two, where each is within a length
 either_short : (t : Bool) (a b : Found) (n : ℕ) → (t ≡ true → a.used ≤ n) → (t ≡ false → b.used ≤ n) → (cond t a b).used ≤ n

@@ -1,7 +1,7 @@
 -- The items of a line of text (docs/TEXT.md), read from the front of what is left of the line.
 use Rattle.std.specs.Prelude.{ℕ, suc, ◌+◌, ◌-◌, ◌*◌, List, [], ◌∷◌, Bool, true, ◌&&◌, ◌||◌, not, cond, eqb, ltb, leb, length, drop}
 use Rattle.wire.specs.Numbers.{byte_at}
-use Rattle.calendar.specs.declared.Minute.{Minute}
+use Rattle.calendar.specs.Calendar.{Minute}
 use Rattle.calendar.specs.Calendar.{minute_of}
 use Rattle.text_scan.specs.declared.Found.{Found}
 use Rattle.text_scan.specs.declared.Digits.{Digits}

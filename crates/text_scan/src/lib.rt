@@ -56,130 +56,81 @@ pub struct Digits {
 }
 
 // Whether a byte parts items: a space, a tab, a comma, a semicolon, a bar or a carriage return.
+#[tactic(auto, unfolding(crate::specs::Scan::is_gap))]
 pub fn is_gap(b: u8) -> bool
     ensures { result ≡ is_gap b }
 {
-    if b == 32 {
-        return true;
-    }
-    if b == 9 {
-        return true;
-    }
-    if b == 44 {
-        return true;
-    }
-    if b == 59 {
-        return true;
-    }
-    if b == 124 {
-        return true;
-    }
-    b == 13
+    matches!(b, b' ' | b'\t' | b',' | b';' | b'|' | b'\r')
 }
 
 // How many bytes in front part items.
 pub fn gaps_in(s: &[u8]) -> usize
     ensures { result ≡ gaps_in s.now }
 {
-    let mut i = 0;
-    while i < s.len() {
-        if !is_gap(s[i]) {
-            return i;
-        }
-        i += 1;
-    }
-    i
+    s.iter().position(|b| !is_gap(*b)).unwrap_or(s.len())
 }
 
 // Whether the line has nothing more: its end, or a comment.
 pub fn ends_here(s: &[u8]) -> bool
     ensures { result ≡ ends_here s.now }
 {
-    if s.len() == 0 {
-        return true;
-    }
-    s[0] == 35
+    matches!(s, [] | [b'#', ..])
 }
 
 // Whether an item that stood before this is parted from what follows.
 pub fn parted_here(s: &[u8]) -> bool
     ensures { result ≡ parted_here s.now }
 {
-    if ends_here(s) {
-        return true;
-    }
-    is_gap(wire::byte_at(s, 0))
+    ends_here(s) || is_gap(wire::byte_at(s, 0))
 }
 
 // ---- lines of cells
 
 // Whether a byte makes a line one of cells: a tab, a comma or a semicolon.
+#[tactic(auto, unfolding(crate::specs::Scan::separates))]
 fn separates(b: u8) -> bool
     ensures { result ≡ Rattle.text_scan.specs.Scan.separates b }
 {
-    if b == 9 {
-        return true;
-    }
-    if b == 44 {
-        return true;
-    }
-    b == 59
+    matches!(b, b'\t' | b',' | b';')
 }
 
 // The separator of a line of cells: the first before its comment. 0 where there is none.
 pub fn separator_of(line: &[u8]) -> u8
     ensures { result ≡ separator_of line.now }
 {
-    let mut i = 0;
-    while i < line.len() {
-        let b = line[i];
-        if b == 35 {
+    for &b in line {
+        if b == b'#' {
             return 0;
         }
         if separates(b) {
             return b;
         }
-        i += 1;
     }
     0
 }
 
 // Whether a byte is a separator, and not the line's.
+#[tactic(auto, unfolding(crate::specs::Scan::is_other))]
 fn is_other(b: u8, sep: u8) -> bool
     ensures { result ≡ is_other b sep }
 {
-    if !separates(b) {
-        return false;
-    }
-    b != sep
+    separates(b) && b != sep
 }
 
 // Where in a gap a separator stands that is not the line's; the gap's length where none does.
 pub fn other_at(gap: &[u8], sep: u8) -> usize
     ensures { result ≡ other_at gap.now sep }
 {
-    let mut at = 0;
-    while at < gap.len() {
-        if is_other(gap[at], sep) {
-            return at;
-        }
-        at += 1;
-    }
-    at
+    gap.iter()
+        .position(|b| is_other(*b, sep))
+        .unwrap_or(gap.len())
 }
 
 // Where in a gap a byte first stands; the gap's length where it does not.
 fn place_of(gap: &[u8], sep: u8) -> usize
     ensures { result ≡ separator_place gap.now sep }
 {
-    let mut at = 0;
-    while at < gap.len() {
-        if gap[at] == sep {
-            return at;
-        }
-        at += 1;
-    }
-    at
+    gap.iter().position(|b| *b == sep).unwrap_or(gap.len())
 }
 
 // What is said of a place so many bytes on.
@@ -219,43 +170,38 @@ pub fn gap_said(gap: &[u8], sep: u8, due: bool) -> Found
 // ---- numbers
 
 // Whether a byte is a decimal digit.
+#[tactic(auto, unfolding(crate::specs::Scan::is_digit))]
 pub fn is_digit(b: u8) -> bool
     ensures { result ≡ Rattle.text_scan.specs.Scan.is_digit b }
 {
-    if b < 48 {
-        return false;
-    }
-    b <= 57
+    b.is_ascii_digit()
 }
 
 // A number with one digit more; past 4,294,967,295 it stays.
+#[tactic(auto, unfolding(crate::specs::Scan::grown))]
 fn grown(value: u64, b: u8) -> u64
     ensures { result ≡ Rattle.text_scan.specs.Scan.grown value b }
 {
-    if 4294967295 < value {
+    if u64::from(u32::MAX) < value {
         return value;
     }
-    if b < 48 {
-        return value * 10;
-    }
-    value * 10 + (b - 48) as u64
+    value * 10 + u64::from(b.saturating_sub(b'0'))
 }
 
 // The decimal digits in front.
+#[tactic(auto, unfolding(crate::specs::Scan::digits_of))]
 fn digits_of(s: &[u8]) -> Digits
     ensures { result ≡ digits_of s.now }
 {
-    let mut value: u64 = 0;
-    let mut i = 0;
-    while i < s.len() {
-        let b = s[i];
+    let mut run = Digits { value: 0, used: 0 };
+    for &b in s {
         if !is_digit(b) {
-            return Digits { value, used: i };
+            return run;
         }
-        value = grown(value, b);
-        i += 1;
+        run.value = grown(run.value, b);
+        run.used += 1;
     }
-    Digits { value, used: i }
+    run
 }
 
 // A number of at most so much; `none` is answered where no digit stands, and `large` where it is larger.
@@ -285,26 +231,18 @@ fn number_found(s: &[u8], most: u32, none: u8, large: u8) -> Found
 }
 
 // Whether two decimal digits stand at a place.
+#[tactic(auto, unfolding(crate::specs::Scan::two_stand))]
 fn two_stand(s: &[u8], at: usize) -> bool
     ensures { result ≡ Rattle.text_scan.specs.Scan.two_stand s.now at }
 {
-    if 16 <= at {
-        return false;
-    }
-    if !is_digit(wire::byte_at(s, at)) {
-        return false;
-    }
-    is_digit(wire::byte_at(s, at + 1))
+    at < 16 && is_digit(wire::byte_at(s, at)) && is_digit(wire::byte_at(s, at + 1))
 }
 
 // The number of a decimal digit.
 fn digit_of(b: u8) -> u32
     ensures { result ≡ b - 48 }
 {
-    if b < 48 {
-        return 0;
-    }
-    (b - 48) as u32
+    u32::from(b.saturating_sub(b'0'))
 }
 
 // The number of two decimal digits at a place; 0 where they do not stand there.
@@ -314,35 +252,21 @@ fn two_at(s: &[u8], at: usize) -> u32
     if !two_stand(s, at) {
         return 0;
     }
-    if 16 <= at {
-        return 0;
-    }
     digit_of(wire::byte_at(s, at)) * 10 + digit_of(wire::byte_at(s, at + 1))
 }
 
 // Whether a date stands in front, as MM-DD hh:mm.
+#[tactic(auto, unfolding(crate::specs::Scan::date_stands))]
 fn date_stands(s: &[u8]) -> bool
     ensures { result ≡ Rattle.text_scan.specs.Scan.date_stands s.now }
 {
-    if !two_stand(s, 0) {
-        return false;
-    }
-    if wire::byte_at(s, 2) != 45 {
-        return false;
-    }
-    if !two_stand(s, 3) {
-        return false;
-    }
-    if wire::byte_at(s, 5) != 32 {
-        return false;
-    }
-    if !two_stand(s, 6) {
-        return false;
-    }
-    if wire::byte_at(s, 8) != 58 {
-        return false;
-    }
-    two_stand(s, 9)
+    two_stand(s, 0)
+        && wire::byte_at(s, 2) == b'-'
+        && two_stand(s, 3)
+        && wire::byte_at(s, 5) == b' '
+        && two_stand(s, 6)
+        && wire::byte_at(s, 8) == b':'
+        && two_stand(s, 9)
 }
 
 // A time as MM-DD hh:mm within a year; the year is 0 where none is known.
@@ -397,28 +321,16 @@ fn time_found(s: &[u8], year: u16) -> Found
 }
 
 // The number of a hexadecimal digit, of either case; 16 for any other byte.
+#[tactic(auto, unfolding(crate::specs::Scan::hex_value))]
 fn hex_value(b: u8) -> u8
     ensures { result ≡ Rattle.text_scan.specs.Scan.hex_value b }
 {
-    if b < 48 {
-        return 16;
+    match b {
+        b'0'..=b'9' => b - b'0',
+        b'A'..=b'F' => b - b'A' + 10,
+        b'a'..=b'f' => b - b'a' + 10,
+        _ => 16,
     }
-    if b <= 57 {
-        return b - 48;
-    }
-    if b < 65 {
-        return 16;
-    }
-    if b <= 70 {
-        return b - 55;
-    }
-    if b < 97 {
-        return 16;
-    }
-    if b <= 102 {
-        return b - 87;
-    }
-    16
 }
 
 // A byte in two hexadecimal digits.

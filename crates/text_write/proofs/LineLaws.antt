@@ -16,7 +16,7 @@ use Rattle.text.specs.Text.{number_text}
 use Rattle.text.proofs.TextLaws.{tenth_below, number_ends, number_unrolls}
 use Rattle.pen.specs.Pen.{Spot, pushed_all, hex_text}
 use Rattle.pen.proofs.PenLaws.{pushed_all_append}
-use Rattle.text_items.specs.declared.Entry.{Entry}
+use Rattle.text_items.specs.Entry.{Entry}
 use Rattle.text_items.specs.Shape.{item_of, bar_before}
 use Rattle.text_parse.specs.Entry.{word_text}
 use Rattle.text_write.specs.Line.{date_text, time_text, item_text, gap_text, items_text, entry_items, line_of}

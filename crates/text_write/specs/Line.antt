@@ -5,7 +5,7 @@ use Rattle.calendar.specs.declared.Date.{Date}
 use Rattle.calendar.specs.Calendar.{date_of}
 use Rattle.text.specs.Text.{number_text, two_text}
 use Rattle.pen.specs.Pen.{hex_text}
-use Rattle.text_items.specs.declared.Entry.{Entry}
+use Rattle.text_items.specs.Entry.{Entry}
 use Rattle.text_items.specs.Shape.{item_of, bar_before}
 use Rattle.text_parse.specs.Entry.{word_text}
 

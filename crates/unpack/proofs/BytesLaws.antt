@@ -1,10 +1,13 @@
 -- A line of bytes put together one byte after the other: those taken, and zeros past them. Assumes nothing.
-use Prim.Native.Nat.{ℕ, suc, ◌+◌, ◌-◌, ◌<◌, ◌≤◌}
+use Prim.Native.Nat.{ℕ, suc, ◌+◌, ◌-◌, ◌<◌, ◌≤◌, min}
 use mathlib.Core.Path.{◌≡◌, sym, ap, ◌∙◌}
 use mathlib.Core.List.{List, [], ◌∷◌, ◌++◌}
 use lib.ListN.{length, take, get_or, set, replicate}
 use lib.Seq.{set-append_seam, append_snoc, take-suc, take_all, length-take-le}
+use lib.Dec.{leb}
 use native.Mathlib.Omega.{arith}
+use borrow.Author.Tests.{leb-true, leb-false}
+use Rattle.base.proofs.TestLaws.{Tested, holds, fails, test}
 use Rattle.text_items.specs.Shape.{entry_of}
 use Rattle.unpack.specs.Unpack.{bytes_entry}
 
@@ -18,7 +21,7 @@ module _ (s : List ℕ) where
   stands l k m b e = ap (λ (i : ℕ). set (l ++ replicate (suc m) 0) i b) (sym e) ∙ set-append_seam l 0 (replicate m 0) b ∙ sym (append_snoc l b (replicate m 0))
 
   -- with the k-th byte (from 0) set at its place there are k + 1 bytes
-  pub one_more : (k : ℕ) → k < length s → k < 32 → set (begun k) k (get_or s k 0) ≡ begun (k + 1)
+  one_more : (k : ℕ) → k < length s → k < 32 → set (begun k) k (get_or s k 0) ≡ begun (k + 1)
   one_more k h few =
       let m : ℕ = 261 - (k + 1) in
       let zeros : 261 - k ≡ suc m = omega arith in
@@ -31,14 +34,38 @@ module _ (s : List ℕ) where
   entry_with : (l : List ℕ) (k : ℕ) → length l ≡ k → record { kind = 4; count = k; values = l ++ replicate (261 - k) 0 } ≡ entry_of 4 l
   entry_with l k e = λ i. record { kind = 4; count = sym e i; values = l ++ replicate (261 - sym e i) 0 }
 
-  -- of 32 bytes or more the first 32 are the line, and of at most 32 all of them
-  pub full_line : 32 ≤ length s → record { kind = 4; count = 32; values = begun 32 } ≡ bytes_entry s
-  unfolding bytes_entry
-  full_line h = entry_with (take 32 s) 32 (length-take-le 32 s h)
+-- of 32 bytes or more the first 32 are the line, and of at most 32 all of them
+first_taken : (s : List ℕ) (count : ℕ) → count ≡ min (length s) 32 → take count s ≡ take 32 s
+first_taken s count e = go (test (leb (length s) 32))
+  where
+    go : Tested (leb (length s) 32) → take count s ≡ take 32 s
+    go (holds h) =
+        let few : length s ≤ 32 = leb-true (length s) 32 h in
+        take_all count s (omega arith) ∙ sym (take_all 32 s few)
+    go (fails h) =
+        let many : 32 < length s = leb-false (length s) 32 h in
+        let all : count ≡ 32 = omega arith in
+        ap (λ (n : ℕ). take n s) all
 
-  pub part_line : length s ≤ 32 → record { kind = 4; count = length s; values = begun (length s) } ≡ bytes_entry s
-  unfolding bytes_entry
-  part_line h =
-      let whole : take 32 s ≡ s = take_all 32 s h in
-      let same : take (length s) s ≡ take 32 s = take_all (length s) s (omega arith) ∙ sym whole in
-      (λ i. record { kind = 4; count = length s; values = same i ++ replicate (261 - length s) 0 }) ∙ entry_with (take 32 s) (length s) (ap length whole)
+pub one_taken :
+    (s : List ℕ) (count k : ℕ) →
+    count ≡ min (length s) 32 →
+    k < length (take count s) →
+    set (begun (take count s) k) k (get_or (take count s) k 0) ≡ begun (take count s) (k + 1)
+one_taken s count k e h =
+    let long : length (take count s) ≡ count = length-take-le count s (omega arith) in
+    one_more (take count s) k h (omega arith)
+
+pub line_taken :
+    (s : List ℕ) (count k : ℕ) →
+    count ≡ min (length s) 32 →
+    length (take count s) ≤ k →
+    k ≤ length (take count s) →
+    record { kind = 4; count = count; values = begun (take count s) k } ≡ bytes_entry s
+unfolding bytes_entry
+line_taken s count k e least most =
+    let long : length (take count s) ≡ count = length-take-le count s (omega arith) in
+    let all : k ≡ count = omega arith in
+    (λ i. record { kind = 4; count = count; values = (ap (begun (take count s)) all ∙ ap (λ (l : List ℕ). l ++ replicate (261 - count) 0) (take_all count (take count s) (omega arith))) i })
+    ∙ entry_with s (take count s) count long
+    ∙ ap (entry_of 4) (first_taken s count e)

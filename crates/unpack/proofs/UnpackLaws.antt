@@ -1,4 +1,4 @@
--- The cases of the definitions, each by the tests that lead there, and the numbers of a record set one after the other. Assumes nothing.
+-- How many numbers a record has, the year after some records, and the numbers of a record set one after the other. Assumes nothing.
 use Prim.Native.Nat.{ℕ, zero, suc, ◌+◌, ◌-◌, ◌*◌, ◌<◌, ◌≤◌}
 use mathlib.Core.Path.{◌≡◌, refl, sym, ap, ◌∙◌}
 use mathlib.Core.List.{List, [], ◌∷◌, ◌++◌}
@@ -7,78 +7,16 @@ use lib.ListN.{length, set, replicate}
 use lib.Seq.{set-append_seam, append_snoc}
 use lib.Dec.{eqb, ltb}
 use native.Mathlib.Omega.{arith}
-use borrow.Author.Tests.{eq-eqb, ne_eqb, lt-ltb, le-ltb, lt-leb, le-leb, eqb-true, eqb-false, ltb-false}
+use borrow.Author.Tests.{eq-eqb, ne_eqb, eqb-true, eqb-false, ltb-false}
 use Rattle.base.proofs.TestLaws.{Tested, holds, fails, test}
-use Rattle.wire.specs.Numbers.{byte_at, le16, le32}
 use Rattle.wire.specs.Frame.{framed, kind_of}
-use Rattle.fields.specs.Fields.{sheet_in, step_count}
-use Rattle.fields.specs.Tests.{in_range}
-use Rattle.text_items.specs.declared.Entry.{Entry}
+use Rattle.fields.specs.Fields.{step_count}
+use Rattle.text_items.specs.Entry.{Entry}
 use Rattle.text_items.specs.Shape.{most_of, entry_of}
 use Rattle.text_items.proofs.ShapeLaws.{most_small}
 use Rattle.unpack.specs.Unpack.{kind_in, stepped_in, count_in, value_in, values_run, unpacked_of, year_after}
 
 module _ (s : List ℕ) where
-  -- the sort of the line that expresses a record: its kind, where it is framed and has its kind's length; 0 for any other record
-  pub kind_unframed : framed s ≡ false → 0 ≡ kind_in s
-  unfolding kind_in
-  kind_unframed f = rw (kind_in, f) refl
-
-  pub kind_sheet : framed s ≡ true → kind_of s ≡ 1 → length s ≡ 18 → 1 ≡ kind_in s
-  unfolding kind_in
-  kind_sheet f k l = rw (kind_in, f, k, l) refl
-
-  pub kind_no_sheet : framed s ≡ true → kind_of s ≡ 1 → (length s ≡ 18 → ⊥) → 0 ≡ kind_in s
-  unfolding kind_in
-  kind_no_sheet f k l = rw (kind_in, f, k, ne_eqb (length s) 18 l) refl
-
-  pub kind_simple : framed s ≡ true → kind_of s ≡ 2 → length s ≡ 53 → 2 ≡ kind_in s
-  unfolding kind_in
-  kind_simple f k l = rw (kind_in, f, k, l) refl
-
-  pub kind_no_simple : framed s ≡ true → kind_of s ≡ 2 → (length s ≡ 53 → ⊥) → 0 ≡ kind_in s
-  unfolding kind_in
-  kind_no_simple f k l = rw (kind_in, f, k, ne_eqb (length s) 53 l) refl
-
-  pub kind_other : framed s ≡ true → (kind_of s ≡ 1 → ⊥) → (kind_of s ≡ 2 → ⊥) → (kind_of s ≡ 3 → ⊥) → 0 ≡ kind_in s
-  unfolding kind_in
-  kind_other f a b c = rw (kind_in, f, ne_eqb (kind_of s) 1 a, ne_eqb (kind_of s) 2 b, ne_eqb (kind_of s) 3 c) refl
-
-  kind_stepped : framed s ≡ true → kind_of s ≡ 3 → stepped_in s ≡ kind_in s
-  unfolding kind_in
-  kind_stepped f k = rw (kind_in, f, k) refl
-
-  -- of a stepped event: 3 for 1 to 64 steps and the length that they make, else 0
-  pub stepped_none : framed s ≡ true → kind_of s ≡ 3 → step_count s ≡ 0 → 0 ≡ kind_in s
-  stepped_none f k n = sym (rw n refl) ∙ kind_stepped f k
-
-  pub stepped_many : framed s ≡ true → kind_of s ≡ 3 → (step_count s ≡ 0 → ⊥) → 64 < step_count s → 0 ≡ kind_in s
-  stepped_many f k n m =
-      let e : 0 ≡ stepped_in s = rw (ne_eqb (step_count s) 0 n, lt-ltb 64 (step_count s) m) refl in
-      e ∙ kind_stepped f k
-
-  pub stepped_right :
-      framed s ≡ true →
-      kind_of s ≡ 3 →
-      (step_count s ≡ 0 → ⊥) →
-      step_count s ≤ 64 →
-      length s ≡ 14 + 16 * step_count s →
-      3 ≡ kind_in s
-  stepped_right f k n m l =
-      let e : 3 ≡ stepped_in s = rw (ne_eqb (step_count s) 0 n, le-ltb 64 (step_count s) m, eq-eqb (length s) (14 + 16 * step_count s) l) refl in
-      e ∙ kind_stepped f k
-
-  pub stepped_wrong :
-      framed s ≡ true →
-      kind_of s ≡ 3 →
-      (step_count s ≡ 0 → ⊥) →
-      step_count s ≤ 64 →
-      (length s ≡ 14 + 16 * step_count s → ⊥) →
-      0 ≡ kind_in s
-  stepped_wrong f k n m l =
-      let e : 0 ≡ stepped_in s = rw (ne_eqb (step_count s) 0 n, le-ltb 64 (step_count s) m, ne_eqb (length s) (14 + 16 * step_count s) l) refl in
-      e ∙ kind_stepped f k
-
   -- a stepped event has 5 numbers and 4 for each step, any other record as many as its sort takes
   pub count_stepped : (kind : ℕ) → kind ≡ 3 → 5 + 4 * step_count s ≡ count_in s kind
   unfolding count_in
@@ -88,38 +26,8 @@ module _ (s : List ℕ) where
   unfolding count_in
   count_other kind k = rw (count_in, ne_eqb kind 3 k) refl
 
-module _ (s : List ℕ) (kind k : ℕ) where
-  -- where the k-th number (from 0) of a record stands, and in how many bytes, by its sort; 0 for k of 261 or more
-  pub value_past : 261 ≤ k → 0 ≡ value_in s kind k
-  unfolding value_in
-  value_past h = rw (value_in, le-leb 261 k h) refl
-
-  pub value_first : k < 261 → k ≡ 0 → le16 s 4 ≡ value_in s kind k
-  unfolding value_in
-  value_first h z = rw (value_in, lt-leb 261 k h, eq-eqb k 0 z) refl
-
-  pub value_sheet : k < 261 → (k ≡ 0 → ⊥) → kind ≡ 1 → le32 s (4 * k + 2) ≡ value_in s kind k
-  unfolding value_in
-  value_sheet h z e = rw (value_in, lt-leb 261 k h, ne_eqb k 0 z, eq-eqb kind 1 e) refl
-
-  pub value_code : k < 261 → (k ≡ 0 → ⊥) → (kind ≡ 1 → ⊥) → k < 4 → byte_at s (k + 5) ≡ value_in s kind k
-  unfolding value_in
-  value_code h z n l = rw (value_in, lt-leb 261 k h, ne_eqb k 0 z, ne_eqb kind 1 n, lt-ltb k 4 l) refl
-
-  pub value_start : k < 261 → (k ≡ 0 → ⊥) → (kind ≡ 1 → ⊥) → 4 ≤ k → k ≡ 4 → le32 s 9 ≡ value_in s kind k
-  unfolding value_in
-  value_start h z n l e = rw (value_in, lt-leb 261 k h, ne_eqb k 0 z, ne_eqb kind 1 n, le-ltb k 4 l, eq-eqb k 4 e) refl
-
-  pub value_simple : k < 261 → (k ≡ 0 → ⊥) → (kind ≡ 1 → ⊥) → 4 ≤ k → (k ≡ 4 → ⊥) → kind ≡ 2 → le32 s (4 * k - 7) ≡ value_in s kind k
-  unfolding value_in
-  value_simple h z n l m e = rw (value_in, lt-leb 261 k h, ne_eqb k 0 z, ne_eqb kind 1 n, le-ltb k 4 l, ne_eqb k 4 m, eq-eqb kind 2 e) refl
-
-  pub value_stepped : k < 261 → (k ≡ 0 → ⊥) → (kind ≡ 1 → ⊥) → 4 ≤ k → (k ≡ 4 → ⊥) → (kind ≡ 2 → ⊥) → le32 s (4 * k - 6) ≡ value_in s kind k
-  unfolding value_in
-  value_stepped h z n l m e = rw (value_in, lt-leb 261 k h, ne_eqb k 0 z, ne_eqb kind 1 n, le-ltb k 4 l, ne_eqb k 4 m, ne_eqb kind 2 e) refl
-
 module _ (year : ℕ) (s : List ℕ) where
-  -- a year that is known stays; where none is, a sheet in range tells it, and any other record none
+  -- a year that is known stays; where none is, no record but a sheet tells one
   pub year_kept : (year ≡ 0 → ⊥) → year ≡ year_after year s
   unfolding year_after
   year_kept n = rw (year_after, ne_eqb year 0 n) refl
@@ -127,14 +35,6 @@ module _ (year : ℕ) (s : List ℕ) where
   pub year_none : year ≡ 0 → (kind_in s ≡ 1 → ⊥) → 0 ≡ year_after year s
   unfolding year_after
   year_none z n = rw (year_after, eq-eqb year 0 z, ne_eqb (kind_in s) 1 n) refl
-
-  pub year_far : year ≡ 0 → kind_in s ≡ 1 → in_range (sheet_in s) ≡ false → 0 ≡ year_after year s
-  unfolding year_after
-  year_far z k r = rw (year_after, eq-eqb year 0 z, eq-eqb (kind_in s) 1 k, r) refl
-
-  pub year_of_sheet : year ≡ 0 → kind_in s ≡ 1 → in_range (sheet_in s) ≡ true → le16 s 4 ≡ year_after year s
-  unfolding year_after
-  year_of_sheet z k r = rw (year_after, eq-eqb year 0 z, eq-eqb (kind_in s) 1 k, r) refl
 
 -- a choice that comes to 3 by its second way
 small : (n : ℕ) → n < 3 → n ≡ 3 → ⊥
@@ -164,6 +64,10 @@ steps_few s e =
     let d = (past (not (eqb (kind_of s) 3)) 0 (stepped_in s) none c).1 in
     let f = (past (eqb (step_count s) 0) 0 many none d).1 in
     ltb-false 64 (step_count s) (past (ltb 64 (step_count s)) 0 last none f).0
+
+count_blank : (s : List ℕ) → count_in s 0 ≡ 0
+unfolding count_in most_of
+count_blank s = refl
 
 -- no record has more than 261 numbers
 pub count_few : (s : List ℕ) (kind : ℕ) → kind ≡ kind_in s → count_in s kind ≤ 261
@@ -209,22 +113,21 @@ filled_next k s kind h =
     let ends : run ++ (v ∷ []) ≡ values_run (k + 1) s kind 0 = sym (run_ends k s kind 0 ∙ (let e : 0 + k ≡ k = omega arith in λ i. run ++ (value_in s kind (e i) ∷ []))) in
     (λ i. set (front i) (place i) v) ∙ set-append_seam run 0 rest v ∙ sym (append_snoc run v rest) ∙ ap (λ (l : List ℕ). l ++ rest) ends
 
--- all its numbers are the entry
-pub entry_of_lem :
-    (s : List ℕ) (kind k : ℕ) →
-    kind ≡ kind_in s →
-    (kind ≡ 0 → ⊥) →
-    k ≡ count_in s kind →
-    ◌≡◌ {A = Entry} record { kind = kind; count = k; values = filled k s kind } (unpacked_of s)
+-- all its numbers are the entry; a record that no line expresses has none, as its sort is 0
+pub entry_of_lem : (s : List ℕ) (kind k : ℕ) → kind ≡ kind_in s → k ≡ count_in s kind → ◌≡◌ {A = Entry} record { kind = kind; count = k; values = filled k s kind } (unpacked_of s)
 unfolding unpacked_of
-entry_of_lem s kind k e n c =
-    let size : k ≡ length (values_run k s kind 0) = sym (run_long k s kind 0) in
-    let all : k ≡ count_in s (kind_in s) = c ∙ ap (count_in s) e in
-    (λ i. record { kind = kind; count = size i; values = values_run k s kind 0 ++ replicate (261 - size i) 0 })
-    ∙ (λ i. entry_of (e i) (values_run (all i) s (e i) 0))
-    ∙ sym (rw (unpacked_of, ne_eqb (kind_in s) 0 (λ z. n (e ∙ z))) refl)
+entry_of_lem s kind k e c = go (test (eqb (kind_in s) 0))
+  where
+    all : k ≡ count_in s (kind_in s)
+    all = c ∙ ap (count_in s) e
 
--- a record that no line expresses has no entry: sort 0 and zeros
-pub blank_of : (s : List ℕ) (kind : ℕ) → kind ≡ kind_in s → kind ≡ 0 → ◌≡◌ {A = Entry} record { kind = kind; count = 0; values = replicate 261 0 } (unpacked_of s)
-unfolding unpacked_of
-blank_of s kind e z = (λ i. record { kind = z i; count = 0; values = replicate 261 0 }) ∙ sym (rw (unpacked_of, eq-eqb (kind_in s) 0 (sym e ∙ z)) refl)
+    go : Tested (eqb (kind_in s) 0) → ◌≡◌ {A = Entry} record { kind = kind; count = k; values = filled k s kind } (unpacked_of s)
+    go (holds z) =
+        let blank : kind_in s ≡ 0 = eqb-true (kind_in s) 0 z in
+        let none : k ≡ 0 = all ∙ ap (count_in s) blank ∙ count_blank s in
+        (λ i. record { kind = (e ∙ blank) i; count = none i; values = filled (none i) s (e i) }) ∙ sym (rw (unpacked_of, z) refl)
+    go (fails z) =
+        let size : k ≡ length (values_run k s kind 0) = sym (run_long k s kind 0) in
+        (λ i. record { kind = kind; count = size i; values = values_run k s kind 0 ++ replicate (261 - size i) 0 })
+        ∙ (λ i. entry_of (e i) (values_run (all i) s (e i) 0))
+        ∙ sym (rw (unpacked_of, z) refl)

@@ -4,7 +4,7 @@ use Rattle.wire.specs.Numbers.{byte_at, le16, le32}
 use Rattle.wire.specs.Frame.{framed, kind_of}
 use Rattle.fields.specs.Fields.{sheet_in, step_count}
 use Rattle.fields.specs.Tests.{in_range}
-use Rattle.text_items.specs.declared.Entry.{Entry}
+use Rattle.text_items.specs.Entry.{Entry}
 use Rattle.text_items.specs.Shape.{most_of, entry_of, no_entry}
 
 -- "14 + 16 x steps", "Steps are 1 to 64"

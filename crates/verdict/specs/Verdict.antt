@@ -6,7 +6,17 @@ use Rattle.annex.specs.Figures.{nothing}
 use Rattle.annex.specs.Times.{is_short}
 use Rattle.fields.specs.declared.Sheet.{Sheet}
 use Rattle.fields.specs.declared.Head.{Head}
-use Rattle.verdict.specs.declared.Verdict.{Verdict}
+
+-- an answer, and what the record does to a ledger: the sheet after it, the number that it marks (0 for none), the events and short events that it
+-- adds, and its figures with their row
+pub record Verdict : Type 0 where
+  pub answer : ℕ
+  pub sheet : Sheet
+  pub number : ℕ
+  pub events : ℕ
+  pub short : ℕ
+  pub row : ℕ
+  pub figures : Figures
 
 -- a refused record leaves the sheet, marks no number and adds nothing
 abbrev pub refused_with : Sheet → ℕ → Verdict

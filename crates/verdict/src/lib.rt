@@ -1,17 +1,17 @@
-// What judging a record comes to: a verdict, of a refused record and of an accepted event.
+// What judging a record comes to: what an accepted one adds to a ledger.
 #![tactic(auto)]
 
 ghost use Rattle.std.specs.Prelude.{◌≡◌};
-ghost use Rattle.verdict.specs.Verdict.{refused_with, event_verdict};
+ghost use Rattle.verdict.specs.Verdict.{event_verdict};
+ghost use Rattle.verdict.specs.Judged.{accepted_verdict};
 
 use annex::Figures;
 use fields::{Head, Sheet};
 
-// What judging a record comes to: the answer number, and what the record does to a ledger: the sheet after it, the number that it marks (0 for
-// none), the events and short events that it adds, and its figures with their row. A refused record adds nothing.
+// What an accepted record does to a ledger: the sheet after it, the number that it marks (0 for none), the events and short events that it adds,
+// and its figures with their row.
 #[derive(Clone, Copy)]
-pub struct Verdict {
-    pub answer: u8,
+pub struct Accepted {
     pub sheet: Sheet,
     pub number: u16,
     pub events: u16,
@@ -20,43 +20,24 @@ pub struct Verdict {
     pub figures: Figures,
 }
 
-// The verdict on a refused record.
-pub fn refuse(sheet: Sheet, answer: u8) -> Verdict
-    ensures { result ≡ refused_with sheet answer }
+// What an accepted event adds that ends at a minute, with these figures: a short one adds to no total.
+pub fn accept(sheet: Sheet, head: Head, end: u32, figures: Figures) -> Accepted
+    ensures { accepted_verdict result ≡ event_verdict sheet head end figures }
 {
-    Verdict {
-        answer,
-        sheet,
-        number: 0,
-        events: 0,
-        short: 0,
-        row: 0,
-        figures: Figures::none(),
-    }
-}
-
-// The verdict on an accepted event that ends at a minute, with these figures: a short one adds to no total.
-pub fn accept(sheet: Sheet, head: Head, end: u32, figures: Figures) -> Verdict
-    ensures { result ≡ event_verdict sheet head end figures }
-{
-    if annex::is_short(head.t0, end) {
-        return Verdict {
-            answer: 0,
-            sheet,
-            number: head.number,
-            events: 1,
-            short: 1,
-            row: codes::row_of(head.typ),
-            figures: Figures::none(),
-        };
-    }
-    Verdict {
-        answer: 0,
+    let counted = Accepted {
         sheet,
         number: head.number,
         events: 1,
         short: 0,
         row: codes::row_of(head.typ),
         figures,
+    };
+    if annex::is_short(head.t0, end) {
+        return Accepted {
+            short: 1,
+            figures: Figures::none(),
+            ..counted
+        };
     }
+    counted
 }

@@ -19,8 +19,6 @@ use Rattle.wire.proofs.kind_of.Kinds as kind-of-kinds
 use Rattle.wire.proofs.kind_of.Reads as kind-of
 use Rattle.wire.proofs.place_at.Kinds as place-at-kinds
 use Rattle.wire.proofs.place_at.Reads as place_at
-use Rattle.wire.proofs.stand_at.Kinds as stand-at-kinds
-use Rattle.wire.proofs.stand_at.Reads as stand_at
 use Rattle.wire.proofs.part.Reads as part
 
 pub byte_at_one : OneOutcome byte-at-kinds.ps byte-at-kinds.r byte_at.Post
@@ -49,9 +47,6 @@ kind_of_one κs a x y v w p q = (alike p q, refl)
 
 pub place_at_one : OneOutcome place-at-kinds.ps place-at-kinds.r place_at.Post
 place_at_one κs a x y v w p q = (alike p q, refl)
-
-pub stand_at_one : OneOutcome stand-at-kinds.ps stand-at-kinds.r stand_at.Post
-stand_at_one κs a x y v w p q = (alike p q, refl)
 
 -- the bytes of the part are decided; where they lie is the book's affair
 pub part_one : SeenAlike part.Post (λ κs x. x.now)

@@ -4,7 +4,6 @@ use Rattle.std.specs.Prelude.{ℕ, ◌+◌, ◌-◌, List, cond, length, take, d
 use Rattle.wire.specs.Numbers.{le16}
 use Rattle.wire.specs.declared.Place.{Place}
 use Rattle.wire.specs.declared.Place.TheVariants.{Record, End, Broken}
-use Rattle.wire.specs.declared.Stand.{Stand}
 
 unfoldable pub place_at : List ℕ → ℕ → Place
 place_at book at =
@@ -30,6 +29,12 @@ abbrev pub end_of : Place → ℕ → ℕ
 end_of (Record start end) at = end
 end_of End at = at
 end_of Broken at = at
+
+-- the same in numbers, with the record's place; where no record stands, both places are the offset
+pub record Stand : Type 0 where
+  pub which : ℕ
+  pub start : ℕ
+  pub end : ℕ
 
 abbrev pub stand_of : Place → ℕ → Stand
 stand_of p at = record { which = which_of p; start = start_of p at; end = end_of p at }

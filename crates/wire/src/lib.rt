@@ -4,7 +4,7 @@
 ghost use Rattle.std.specs.Prelude.{◌≡◌, ◌+◌, ◌*◌, ◌<◌, ◌≤◌, length};
 ghost use Rattle.wire.specs.Numbers.{byte_at, le16, le32, counts_at};
 ghost use Rattle.wire.specs.Frame.{framed, kind_of};
-ghost use Rattle.wire.specs.Book.{place_at, stand_of, part_of};
+ghost use Rattle.wire.specs.Book.{place_at, part_of};
 
 // What stands at an offset of a book: a record's place, the end, or a broken length.
 #[derive(Clone, Copy)]
@@ -14,31 +14,11 @@ pub enum Place {
     Broken,
 }
 
-// The same in numbers: 0 a record, 1 the end, 2 broken, and the record's place. Where no record stands, both places are the offset.
-#[derive(Clone, Copy)]
-pub struct Stand {
-    pub which: u8,
-    pub start: usize,
-    pub end: usize,
-}
-
-fn join2(a: u8, b: u8) -> u16
-    ensures { result ≡ a + b * 256 }
-{
-    a as u16 + b as u16 * 256
-}
-
-fn join4(a: u8, b: u8, c: u8, d: u8) -> u32
-    ensures { result ≡ a + b * 256 + c * 65536 + d * 16777216 }
-{
-    a as u32 + b as u32 * 256 + c as u32 * 65536 + d as u32 * 16777216
-}
-
 // The byte at an offset; past the end it is 0, so that every read of a field is total.
 pub fn byte_at(s: &[u8], at: usize) -> u8
     ensures { result ≡ byte_at s.now at }
 {
-    if at < s.len() { s[at] } else { 0 }
+    s.get(at).copied().unwrap_or(0)
 }
 
 // The number of 2 bytes at an offset.
@@ -48,7 +28,7 @@ pub fn u16_at(s: &[u8], at: usize) -> u16
     if s.len() <= at {
         return 0;
     }
-    join2(s[at], byte_at(s, at + 1))
+    u16::from_le_bytes([s[at], byte_at(s, at + 1)])
 }
 
 // The number of 4 bytes at an offset.
@@ -58,12 +38,12 @@ pub fn u32_at(s: &[u8], at: usize) -> u32
     if s.len() <= at {
         return 0;
     }
-    join4(
+    u32::from_le_bytes([
         s[at],
         byte_at(s, at + 1),
         byte_at(s, at + 2),
         byte_at(s, at + 3),
-    )
+    ])
 }
 
 // The three counts at an offset: NN, VN, VVN.
@@ -81,7 +61,7 @@ pub fn u32_in(s: &[u8], at: usize) -> u32
     requires { at + 4 ≤ length s.now }
     ensures { result ≡ le32 s.now at }
 {
-    join4(s[at], s[at + 1], s[at + 2], s[at + 3])
+    u32::from_le_bytes([s[at], s[at + 1], s[at + 2], s[at + 3]])
 }
 
 pub fn counts_in(s: &[u8], at: usize) -> [u32; 3]
@@ -132,41 +112,9 @@ pub fn place_at(book: &[u8], at: usize) -> Place
     }
 }
 
-// The same, as a loop over a book's records asks it.
-pub fn stand_at(book: &[u8], at: usize) -> Stand
-    ensures { result ≡ stand_of (place_at book.now at) at }
-{
-    match place_at(book, at) {
-        Place::Record { start, end } => Stand {
-            which: 0,
-            start,
-            end,
-        },
-        Place::End => Stand {
-            which: 1,
-            start: at,
-            end: at,
-        },
-        Place::Broken => Stand {
-            which: 2,
-            start: at,
-            end: at,
-        },
-    }
-}
-
 // The bytes of a book between two offsets, as far as there are any.
 pub fn part(book: &[u8], start: usize, end: usize) -> &[u8]
     ensures { result.now ≡ part_of book.now start end }
 {
-    if end <= start {
-        return &book[0..0];
-    }
-    if book.len() < start {
-        return &book[0..0];
-    }
-    if end <= book.len() {
-        return &book[start..end];
-    }
-    &book[start..]
+    book.get(start..end.min(book.len())).unwrap_or(&[])
 }

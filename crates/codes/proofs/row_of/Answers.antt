@@ -1,25 +1,18 @@
--- Faults 11 to 16 stand in rows 0 to 5, planned work in row 6, and no other type is listed. Assumes nothing.
+-- Types 11 to 16 have the rows 0 to 5, type 2 has row 6, and any other number is no type. Assumes nothing.
 use mathlib.Core.Path.{sym, ap, ◌∙◌}
-use lib.Dec.{leb}
 use native.Mathlib.Omega.{arith}
-use borrow.Author.Tests.{leb-true}
-use Rattle.base.proofs.TestLaws.{and_left, and_right}
 use Rattle.codes.specs.Codes.{row_of}
 use Rattle.codes.proofs.CodeLaws.{row_of_fault, row_of_planned, row_of_none}
 use Rattle.codes.proofs.row_of.Goals as goal
 
-pub overflow_sub-result : goal.overflow_sub-result
-overflow_sub-result c =
-    let t = c.args.typ in
-    omega (arith, leb-true 11 t (and_left (leb 11 t) (leb t 16) c.if-fault.true))
+pub returns-in-11-to-16 : goal.returns-in-11-to-16
+returns-in-11-to-16 c = sym (row_of_fault c.args.typ (omega arith) (omega arith))
 
-pub returns-then-fault : goal.returns-then-fault
-returns-then-fault c =
-    let t = c.args.typ in
-    sym (row_of_fault t (leb-true _ _ (and_left _ (leb t 16) c.if-fault.true)) (leb-true _ _ (and_right (leb 11 t) _ c.if-fault.true)))
+pub returns-in-2 : goal.returns-in-2
+returns-in-2 c = sym (ap row_of c.in-2.is ∙ row_of_planned)
 
-pub returns-then-typ-eq2 : goal.returns-then-typ-eq2
-returns-then-typ-eq2 c = sym (ap row_of c.if-typ-eq2.true ∙ row_of_planned)
+pub returns-in_default : goal.returns-in_default
+returns-in_default c = sym (row_of_none c.args.typ (grind arith) (λ e. grind arith))
 
-pub returns : goal.returns
-returns c = sym (row_of_none c.args.typ c.if-fault.false c.if-typ-eq2.false)
+pub returns-in_default-2 : goal.returns-in_default-2
+returns-in_default-2 c = sym (row_of_none c.args.typ (grind arith) (λ e. grind arith))

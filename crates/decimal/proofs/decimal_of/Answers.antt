@@ -5,7 +5,7 @@ use Prim.Native.Nat.{◌<◌, ◌^◌}
 use mathlib.Core.Path.{◌≡◌, ap, sym, ◌∙◌}
 use native.Mathlib.Omega.{arith}
 use native.Mathlib.Nat.{mod-lt}
-use Rattle.decimal.specs.declared.Shown.TheVariants.{Is}
+use Rattle.std.specs.Prelude.{Ok}
 use Rattle.decimal.specs.Decimal.{decimally}
 use Rattle.decimal.proofs.DivisionLaws.{quotient_has_room}
 use Rattle.decimal.proofs.RoundLaws.{below_half_cut_off, half_carried, no_bottom_17, too_many_18, else_shown}
@@ -39,7 +39,7 @@ returns-then-d-x c =
     let a = c.args in
     let x = c.divide-x in
     ap decimally
-    (ap Is (c.carried.ensures ∙ sym (half_carried a.f a.digits x.result x.ensures (omega arith))) ∙
+    (ap Ok (c.carried.ensures ∙ sym (half_carried a.f a.digits x.result x.ensures (omega arith))) ∙
     sym (else_shown a.f a.digits (omega arith) (omega arith))) ∙
     shown_numbers_lem a.f a.digits
 
@@ -48,6 +48,6 @@ returns c =
     let a = c.args in
     let x = c.divide-x in
     ap decimally
-    (ap Is (sym (below_half_cut_off a.f a.digits x.result x.ensures (omega arith))) ∙
+    (ap Ok (sym (below_half_cut_off a.f a.digits x.result x.ensures (omega arith))) ∙
     sym (else_shown a.f a.digits (omega arith) (omega arith))) ∙
     shown_numbers_lem a.f a.digits

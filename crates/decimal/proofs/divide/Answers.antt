@@ -7,30 +7,30 @@ use Rattle.decimal.proofs.DivisionLaws.{digit_more, six_digits_small}
 use Rattle.decimal.proofs.divide.Goals as goal
 
 pub loop-k-init : goal.loop-k-init
-loop-k-init c = (search rules, record { power = refl; split = omega arith; less = search rules; fits = omega arith })
+loop-k-init c = record { power = refl; split = omega arith; less = search rules; fits = omega arith }
 
 pub tenfold-t-requires : goal.tenfold-t-requires
-tenfold-t-requires c = c.loop-k.invariant.1.less
+tenfold-t-requires c = c.loop-k.invariant.less
 
 pub overflow_mul-x : goal.overflow_mul-x
 overflow_mul-x c =
     let small : (c.loop-k.x.power ≤ 1000000) × (c.loop-k.x.digits < 1000000) = let a = c.args in
     let l = c.loop-k in
-    six_digits_small a.m a.d l.k l.x l.invariant.1 (omega arith) in
+    six_digits_small a.m a.d l._k l.x l.invariant (omega arith) in
     omega (arith, small)
 
 pub overflow_mul-x-in-loop-k : goal.overflow_mul-x-in-loop-k
 overflow_mul-x-in-loop-k c =
     let small : (c.loop-k.x.power ≤ 1000000) × (c.loop-k.x.digits < 1000000) = let a = c.args in
     let l = c.loop-k in
-    six_digits_small a.m a.d l.k l.x l.invariant.1 (omega arith) in
+    six_digits_small a.m a.d l._k l.x l.invariant (omega arith) in
     omega (arith, small)
 
 pub overflow_add-x : goal.overflow_add-x
 overflow_add-x c =
     let small : (c.loop-k.x.power ≤ 1000000) × (c.loop-k.x.digits < 1000000) = let a = c.args in
     let l = c.loop-k in
-    six_digits_small a.m a.d l.k l.x l.invariant.1 (omega arith) in
+    six_digits_small a.m a.d l._k l.x l.invariant (omega arith) in
     omega (arith, small, c.tenfold-t.ensures.digit)
 
 pub loop-k-preserved : goal.loop-k-preserved
@@ -38,9 +38,9 @@ loop-k-preserved c =
     let a = c.args in
     let l = c.loop-k in
     let t = c.tenfold-t in
-    (search rules, digit_more a.m a.d l.k l.x l.invariant.1 t.result t.ensures)
+    digit_more a.m a.d l._k l.x l.invariant t.result t.ensures
 
 pub returns : goal.returns
 returns c =
-    let e : c.loop-k.k ≡ c.args.digits = omega arith in
-    rw e at c.loop-k.invariant.1
+    let e : c.loop-k._k ≡ c.args.digits = omega arith in
+    rw e at c.loop-k.invariant

@@ -1,22 +1,16 @@
--- What the calls come to is the plan from the roll of the desk, and that is the plan from the desk itself (`plan_is`). Assumes nothing.
-use mathlib.Core.Path.{◌≡◌, ◌∙◌, ap}
-use lib.ListN.{length, get_or}
-use Rattle.slot.specs.Slot.{free_slot}
-use Rattle.desk_scan.specs.declared.Roll.{Roll}
-use Rattle.desk_scan.specs.Inside.{roll_by, roll_of, place_named}
-use Rattle.desk_rules.specs.Inside.{plan_by}
-use Rattle.desk_rules.proofs.ServeLaws.{plan_is}
+-- The plan of what is seen is the plan of the desk itself (`plan_seen_is`). Assumes nothing.
+use mathlib.Core.Path.{sym, ◌∙◌, ap}
+use Rattle.desk_rules.specs.declared.Seen.{Seen}
+use Rattle.desk_rules.specs.Inside.{plan_seen, planned_in}
+use Rattle.desk_rules.proofs.ServeLaws.{plan_seen_is}
 use Rattle.desk.proofs.planned.Goals as goal
 
 pub returns : goal.returns
 returns c =
-    let d = c.args.desk.now in
-    let s = c.args.bytes.now in
-    let found = c.enter_all-sound.ensures in
-    let roll : c.by-roll.result ≡ roll_of d = c.by-roll.ensures ∙ (λ i. roll_by (found.0 i) (found.1 i)) in
-    let slot : c.slot_at-slot.result ≡ get_or d (place_named (roll_of d) s) free_slot =
-    c.slot_at-slot.ensures ∙
-    (λ i. get_or d ((c.named.ensures ∙ ap (λ (r : Roll). place_named r s) roll) i) (c.free.ensures i)) in
+    let a = c.args in
+    let s = a.bytes.now in
+    let e = c.seen.ensures in
+    ap (λ (d : Seen). planned_in a.ledger d.slots c.decide.result) (sym e) ∙
     c.decide.ensures ∙
-    (λ i. plan_by (length d) (roll i) (slot i) c.args.ledger c.args.map.now s) ∙
-    plan_is c.args.ledger c.args.map.now d s
+    ap (λ (d : Seen). plan_seen d a.ledger a.map.now s) e ∙
+    plan_seen_is a.ledger a.map.now a.desk.now s

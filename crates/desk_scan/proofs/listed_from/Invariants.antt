@@ -1,5 +1,4 @@
 -- At each turn the number is listed from the start on if it was hit so far or is listed in what is left to be counted. Assumes nothing.
-use Prim.Native.Nat.{◌≤◌, ◌-◌}
 use mathlib.Core.Path.{◌≡◌}
 use mathlib.Core.Bool.{◌||◌}
 use lib.ListN.{length, drop}
@@ -9,7 +8,4 @@ use Rattle.desk_scan.proofs.listed_from.Given as goal
 
 abbrev pub invariant-loop-i : goal.invariant-loop-i
 invariant-loop-i l =
-    (l.i ≤ 32) × (listed l.number (drop l.start l.table) ≡ (l.hit || listed l.number (drop (standing l.start l.i) l.table))) × (length l.table ≡ 32)
-
-abbrev pub decreases-loop-i : goal.decreases-loop-i
-decreases-loop-i l = 32 - l.i
+    (listed l.number (drop l.start l.table) ≡ (l.hit || listed l.number (drop (standing l.start l.i) l.table))) × (length l.table ≡ 32)

@@ -1,39 +1,38 @@
--- An unsound table is 1 and nothing is read. Else the mark is cleared, the records are run through, and a broken length counts as one refusal. Assumes
+-- An unsound table is refused and nothing is read. Else the mark is cleared, the records are run through, and a broken length counts as one refusal. Assumes
 -- nothing.
-use mathlib.Core.Path.{◌≡◌, sym, ap, ◌∙◌}
-use mathlib.Core.Bool.{true, false}
+use Prim.Native.Nat.{◌+◌}
+use mathlib.Core.Path.{◌≡◌, sym, ap, ◌∙◌, refl}
+use mathlib.Core.Bool.{false}
 use native.Mathlib.Omega.{arith}
+use Rattle.std.proofs.lemmas.Result.{err_from_is_err_and}
+use Rattle.records.proofs.RunLaws.{broken_counts, one_at_most_broken}
 use Rattle.element_table.specs.declared.Table.{Table}
-use Rattle.element_table.specs.Table.{sound_table, seen_as}
-use Rattle.element_file.specs.Yearly.{pass_of}
-use Rattle.element_file.proofs.RunLaws.{begun_marked, begun_refused, file_unread, file_broken, file_whole, few_refused}
+use Rattle.element_table.specs.Table.{seen_as}
+use Rattle.element_file.specs.Yearly.{passed_in, pass_of}
+use Rattle.element_file.proofs.RunLaws.{begun_marked, begun_refused, file_unread, file_told, few_refused}
 use Rattle.element_file.proofs.take_file.Goals as goal
 
-pub returns-then-begun-ne0 : goal.returns-then-begun-ne0
-returns-then-begun-ne0 c =
+pub returns-in_err-begun : goal.returns-in_err-begun
+returns-in_err-begun c =
     let a = c.args in
-    let h = begun_refused a.table _ c.begin_file-begun.ensures c.if-begun-ne0.true in
-    (λ i. record { answer = 1; table = h.1 i; refused = 0; broken = false }) ∙ sym (file_unread a.table a.file.now h.0)
+    let h = begun_refused a.table _ c.in_err-begun.ensures in
+    let p = err_from_is_err_and c.from_residual.result c.from_residual.ensures.1 in
+    rw (p.1, p.2) ((λ i. record { answer = h.1 i; table = a.table; refused = 0; broken = false }) ∙ sym (file_unread a.table a.file.now h.0))
 
 pub overflow_add-result : goal.overflow_add-result
 overflow_add-result c =
-    let ran : c.take_records-run.result ≡ pass_of (seen_as false c.args.table) c.args.file.now = let a = c.args in
-    c.take_records-run.ensures ∙ ap (λ (t : Table). pass_of t a.file.now) (begun_marked a.table _ c.begin_file-begun.ensures c.if-begun-ne0.false).1 in
     let a = c.args in
-    omega (arith, few_refused a.table a.file.now _ ran)
-
-pub returns-then-run-eq2 : goal.returns-then-run-eq2
-returns-then-run-eq2 c =
-    let sound : sound_table c.args.table ≡ true = (begun_marked _ _ c.begin_file-begun.ensures c.if-begun-ne0.false).0 in
-    let ran : c.take_records-run.result ≡ pass_of (seen_as false c.args.table) c.args.file.now = let a = c.args in
-    c.take_records-run.ensures ∙ ap (λ (t : Table). pass_of t a.file.now) (begun_marked a.table _ c.begin_file-begun.ensures c.if-begun-ne0.false).1 in
-    let a = c.args in
-    file_broken a.table a.file.now _ ran sound c.if-run-eq2.true
+    let marked = begun_marked a.table c.in_ok-begun.begun c.in_ok-begun.ensures in
+    let ran : passed_in c.take_records-run.result ≡ pass_of (seen_as false a.table) a.file.now =
+    c.take_records-run.ensures ∙ ap (λ (t : Table). pass_of t a.file.now) marked.1 in
+    omega (arith, few_refused a.table a.file.now _ ran, one_at_most_broken c.take_records-run.result.broken, c.from.ensures)
 
 pub returns : goal.returns
 returns c =
-    let sound : sound_table c.args.table ≡ true = (begun_marked _ _ c.begin_file-begun.ensures c.if-begun-ne0.false).0 in
-    let ran : c.take_records-run.result ≡ pass_of (seen_as false c.args.table) c.args.file.now = let a = c.args in
-    c.take_records-run.ensures ∙ ap (λ (t : Table). pass_of t a.file.now) (begun_marked a.table _ c.begin_file-begun.ensures c.if-begun-ne0.false).1 in
     let a = c.args in
-    file_whole a.table a.file.now _ ran sound c.if-run-eq2.false
+    let r = c.take_records-run.result in
+    let marked = begun_marked a.table c.in_ok-begun.begun c.in_ok-begun.ensures in
+    let ran : passed_in r ≡ pass_of (seen_as false a.table) a.file.now =
+    c.take_records-run.ensures ∙ ap (λ (t : Table). pass_of t a.file.now) marked.1 in
+    (λ i. record { answer = 0; table = r.table; refused = r.refused + (c.from.ensures ∙ broken_counts r.broken) i; broken = r.broken }) ∙
+    file_told a.table a.file.now (passed_in r) ran marked.0 r.broken refl

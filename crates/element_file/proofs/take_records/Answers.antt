@@ -1,39 +1,47 @@
 -- Invariant (`Going`): the run from the start is the run from here on, and no more records were refused than bytes were read. Assumes nothing.
-use mathlib.Core.Path.{ap, ◌∙◌}
+use mathlib.Core.Path.{sym, ap, ◌∙◌}
 use native.Mathlib.Omega.{arith}
 use Rattle.element_table.specs.Take.{taken_of}
-use Rattle.records.proofs.TakeLaws.{one_at_most}
-use Rattle.records.proofs.RunLaws.{going_begins, going_nearer, going_room}
+use Rattle.records.proofs.RunLaws.{going_begins, going_nearer, going_room, none_stands}
 use Rattle.element_file.specs.Yearly.{starting, take_record}
-use Rattle.element_file.proofs.RunLaws.{refused_in, going_on_lem, going_ends}
+use Rattle.element_file.proofs.RunLaws.{refused_in, going_accepted, going_refused, going_ends}
 use Rattle.element_file.proofs.take_records.Goals as goal
 
-pub loop-stand-init : goal.loop-stand-init
-loop-stand-init c = let a = c.args in going_begins take_record refused_in (starting a.table) a.bytes.now c.stand_at-stand.result c.stand_at-stand.ensures
+pub loop-start-init : goal.loop-start-init
+loop-start-init c = let a = c.args in going_begins take_record refused_in (starting a.table) a.bytes.now
 
 pub overflow_add-refused : goal.overflow_add-refused
 overflow_add-refused c =
-    let g = c.loop-stand in
+    let g = c.loop-start in
     let a = c.args in
-    let room = going_room take_record refused_in (starting a.table) a.bytes.now _ g.stand g.invariant c.loop-stand-test.true in
-    omega (arith, one_at_most c.take-filed.result.answer, c.one_if_refused-refused.ensures, room)
+    omega (arith, going_room take_record refused_in (starting a.table) a.bytes.now _ g.at g.invariant (sym c.in-Record.ensures))
 
-pub loop-stand-smaller : goal.loop-stand-smaller
-loop-stand-smaller c =
-    let g = c.loop-stand in
+pub loop-start-smaller-in-Ok : goal.loop-start-smaller-in-Ok
+loop-start-smaller-in-Ok c =
+    let g = c.loop-start in
     let a = c.args in
-    going_nearer take_record refused_in (starting a.table) a.bytes.now _ g.stand g.invariant c.stand_at-stand-in-loop-stand.result c.stand_at-stand-in-loop-stand.ensures c.loop-stand-test.true
+    going_nearer take_record refused_in (starting a.table) a.bytes.now _ g.at g.invariant (sym c.in-Record.ensures)
 
-pub loop-stand-preserved : goal.loop-stand-preserved
-loop-stand-preserved c =
-    let g = c.loop-stand in
+pub loop-start-preserved-in-Ok : goal.loop-start-preserved-in-Ok
+loop-start-preserved-in-Ok c =
+    let g = c.loop-start in
     let a = c.args in
-    going_on_lem a.table a.bytes.now g.t g.refused g.stand g.invariant c.stand_at-stand-in-loop-stand.result c.stand_at-stand-in-loop-stand.ensures c.loop-stand-test.true
-    c.take-filed.result c.one_if_refused-refused.result
-    (c.take-filed.ensures ∙ ap (taken_of g.t) c.part.ensures) c.one_if_refused-refused.ensures
+    going_accepted a.table a.bytes.now g.table g.refused g.at g.invariant (sym c.in-Record.ensures) c.in-Ok.next (c.in-Ok.ensures ∙ ap (taken_of g.table) c.part.ensures)
+
+pub loop-start-smaller : goal.loop-start-smaller
+loop-start-smaller c =
+    let g = c.loop-start in
+    let a = c.args in
+    going_nearer take_record refused_in (starting a.table) a.bytes.now _ g.at g.invariant (sym c.in-Record.ensures)
+
+pub loop-start-preserved : goal.loop-start-preserved
+loop-start-preserved c =
+    let g = c.loop-start in
+    let a = c.args in
+    going_refused a.table a.bytes.now g.table g.refused g.at g.invariant (sym c.in-Record.ensures) c.in-Err.field-0 (c.in-Err.ensures ∙ ap (taken_of g.table) c.part.ensures)
 
 pub returns : goal.returns
 returns c =
     let a = c.args in
-    let g = c.loop-stand in
-    going_ends a.table a.bytes.now g.t g.refused g.stand g.invariant c.loop-stand-test.false
+    let g = c.loop-start in
+    going_ends a.table a.bytes.now g.table g.refused g.at g.invariant (none_stands a.bytes.now g.at c.place_at.result c.place_at.ensures c.in_default.not-Record)

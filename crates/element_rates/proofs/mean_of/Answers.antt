@@ -1,5 +1,6 @@
 -- Each test of the code is the definition's, so that each return is one of the four ways; a known code has a row, and 60 times its outages is small
 -- enough. Assumes nothing.
+use Rattle.std.specs.Prelude.{Ok}
 use mathlib.Core.Path.{◌≡◌, sym, ap, ◌∙◌}
 use mathlib.Core.Bool.{true}
 use Prim.Native.Nat.{◌*◌, ◌<◌}
@@ -10,7 +11,6 @@ use Rattle.element_codes.specs.Elements.{element_listed}
 use Rattle.element_codes.proofs.CodeLaws.{listed_row}
 use Rattle.element_row.specs.declared.Row.{Row}
 use Rattle.element_table.specs.Table.{row_or, sound_table}
-use Rattle.element_rates.specs.declared.Figure.TheVariants.{Is}
 use Rattle.element_rates.specs.Rates.{row_at}
 use Rattle.element_rates.proofs.FigureLaws.{unsound_refused, unknown_refused, mean_refused, mean_answered}
 use Rattle.element_rates.proofs.mean_of.Goals as goal
@@ -26,14 +26,14 @@ returns-then-not-is_element c =
     let a = c.args in
     sym (unknown_refused a.table a.code sound (sym c.is_element.ensures ∙ c.if-not-is_element.true)).1
 
-pub offset_bounds-rows-row_of : goal.offset_bounds-rows-row_of
-offset_bounds-rows-row_of c =
+pub offset_bounds-table-row_of : goal.offset_bounds-table-row_of
+offset_bounds-table-row_of c =
     let known : element_listed c.args.code ≡ true = sym c.is_element.ensures ∙ c.if-not-is_element.false in
     let has-row : c.row_of.result < 62 = rw c.row_of.ensures (listed_row c.args.code known) in
     let l = has-row in omega arith
 
-pub bounds-rows-row_of : goal.bounds-rows-row_of
-bounds-rows-row_of c =
+pub bounds-table-row_of : goal.bounds-table-row_of
+bounds-table-row_of c =
     let known : element_listed c.args.code ≡ true = sym c.is_element.ensures ∙ c.if-not-is_element.false in
     let has-row : c.row_of.result < 62 = rw c.row_of.ensures (listed_row c.args.code known) in
     has-row
@@ -54,8 +54,8 @@ returns c =
     let known : element_listed c.args.code ≡ true = sym c.is_element.ensures ∙ c.if-not-is_element.false in
     let read : let a = c.args in row_or a.table.rows c.row_of.result ≡ row_at a.table a.code = ap (row_or c.args.table.rows) c.row_of.ensures in
     let a = c.args in
-    (λ i. Is (c.lowest.ensures i)) ∙
-    (λ i. Is (lowest_of (read i).minutes (60 * (read i).outages))) ∙
+    (λ i. Ok (c.lowest.ensures i)) ∙
+    (λ i. Ok (lowest_of (read i).minutes (60 * (read i).outages))) ∙
     sym
     (mean_answered a.table a.code sound known
     (ne_eqb (row_at a.table a.code).outages 0 (λ e. c.if-row-eq0.false (ap (λ (x : Row). x.outages) read ∙ e))))

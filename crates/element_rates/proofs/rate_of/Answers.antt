@@ -1,5 +1,6 @@
 -- Each test of the code is the definition's, so that each return is one of the four ways; a known code has a row, and a sound table's outages and
 -- period are small enough for the products. Assumes nothing.
+use Rattle.std.specs.Prelude.{Ok}
 use mathlib.Core.Path.{◌≡◌, sym, ap, ◌∙◌}
 use mathlib.Core.Bool.{true, ◌||◌}
 use lib.Dec.{eqb}
@@ -13,7 +14,6 @@ use Rattle.element_codes.proofs.CodeLaws.{listed_row}
 use Rattle.element_row.specs.Row.{most_outages}
 use Rattle.element_table.specs.Table.{row_or, sound_table}
 use Rattle.element_table.proofs.BoundLaws.{sound_period, sound_row}
-use Rattle.element_rates.specs.declared.Figure.TheVariants.{Is}
 use Rattle.element_rates.specs.Rates.{row_at, weight_of}
 use Rattle.element_rates.proofs.FigureLaws.{unsound_refused, unknown_refused, rate_by0, rate_refused, rate_answered}
 use Rattle.element_rates.proofs.rate_of.Goals as goal
@@ -29,14 +29,14 @@ returns-then-not-is_element c =
     let a = c.args in
     sym (unknown_refused a.table a.code sound (sym c.is_element.ensures ∙ c.if-not-is_element.true)).0
 
-pub offset_bounds-rows-row_of : goal.offset_bounds-rows-row_of
-offset_bounds-rows-row_of c =
+pub offset_bounds-table-row_of : goal.offset_bounds-table-row_of
+offset_bounds-table-row_of c =
     let known : element_listed c.args.code ≡ true = sym c.is_element.ensures ∙ c.if-not-is_element.false in
     let has-row : c.row_of.result < 62 = rw c.row_of.ensures (listed_row c.args.code known) in
     let l = has-row in omega arith
 
-pub bounds-rows-row_of : goal.bounds-rows-row_of
-bounds-rows-row_of c =
+pub bounds-table-row_of : goal.bounds-table-row_of
+bounds-table-row_of c =
     let known : element_listed c.args.code ≡ true = sym c.is_element.ensures ∙ c.if-not-is_element.false in
     let has-row : c.row_of.result < 62 = rw c.row_of.ensures (listed_row c.args.code known) in
     has-row
@@ -78,9 +78,9 @@ returns c =
     let tested : let a = c.args in
     (eqb (row_or a.table.rows c.row_of.result).stock 0 || eqb (row_or a.table.rows c.row_of.result).amount 0) ≡ rate_by0 a.table a.code = λ i. eqb (read i).stock 0 || eqb (read i).amount 0 in
     let a = c.args in
-    (λ i. Is (c.lowest.ensures i)) ∙
-    (λ i. Is (lowest_of (c.weight.ensures.0 i * (row_or a.table.rows c.row_of.result).outages) ((row_or a.table.rows c.row_of.result).amount * a.table.period))) ∙
-    (λ i. Is (lowest_of (weight_of (read i).stock * (read i).outages) ((read i).amount * a.table.period))) ∙
+    (λ i. Ok (c.lowest.ensures i)) ∙
+    (λ i. Ok (lowest_of (c.weight.ensures.0 i * (row_or a.table.rows c.row_of.result).outages) ((row_or a.table.rows c.row_of.result).amount * a.table.period))) ∙
+    (λ i. Ok (lowest_of (weight_of (read i).stock * (read i).outages) ((read i).amount * a.table.period))) ∙
     sym
     (rate_answered a.table a.code sound known
     (sym tested ∙ c.if-row.false))

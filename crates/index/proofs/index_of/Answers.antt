@@ -12,7 +12,7 @@ use Rattle.codes.specs.Ranges.{most_events}
 use Rattle.annex.specs.Figure.{Off, most_of}
 use Rattle.ledger.specs.Sound.{sound_ledger}
 use Rattle.ledger.proofs.LedgerLaws.{sound_spare}
-use Rattle.index.specs.declared.Answer.TheVariants.{Is}
+use Rattle.std.specs.Prelude.{Ok}
 use Rattle.index.specs.Inside.{Low}
 use Rattle.index.specs.Index.{top_of, divisor_of, formula_of, divided_by}
 use Rattle.index.proofs.SumLaws.{total_within, divisor_at_most}
@@ -26,12 +26,12 @@ returns-then-not-sound c =
     index_told a.ledger a.index a.level a.set _
     (sym (unsound_refused a.ledger a.index a.level a.set (sym c.sound.ensures ∙ c.if-not-sound.true)))
 
-pub returns-then-not-sheet : goal.returns-then-not-sheet
-returns-then-not-sheet c =
+pub returns-then-not-ledger : goal.returns-then-not-ledger
+returns-then-not-ledger c =
     let sound : sound_ledger c.args.ledger ≡ true = sym c.sound.ensures ∙ c.if-not-sound.false in
     let a = c.args in
     index_told a.ledger a.index a.level a.set _
-    (sym (sheetless_refused a.ledger a.index a.level a.set sound (not-true _ c.if-not-sheet.true)))
+    (sym (sheetless_refused a.ledger a.index a.level a.set sound (not-true _ c.if-not-ledger.true)))
 
 pub total_of-sum-requires : goal.total_of-sum-requires
 total_of-sum-requires c =
@@ -42,7 +42,7 @@ total_of-sum-requires c =
 pub returns-then-d-eq0 : goal.returns-then-d-eq0
 returns-then-d-eq0 c =
     let sound : sound_ledger c.args.ledger ≡ true = sym c.sound.ensures ∙ c.if-not-sound.false in
-    let there : c.args.ledger.sheet.there ≡ true = not-false _ c.if-not-sheet.false in
+    let there : c.args.ledger.sheet.there ≡ true = not-false _ c.if-not-ledger.false in
     let divides : let a = c.args in c.divisor-d.result ≡ divided_by a.ledger a.index a.level a.set = c.divisor-d.ensures ∙
     (λ i. divisor_of c.args.index (c.total_of-sum.ensures i) (c.served.ensures.0 i)) in
     let a = c.args in
@@ -66,14 +66,14 @@ overflow_mul-weight c =
 pub returns : goal.returns
 returns c =
     let sound : sound_ledger c.args.ledger ≡ true = sym c.sound.ensures ∙ c.if-not-sound.false in
-    let there : c.args.ledger.sheet.there ≡ true = not-false _ c.if-not-sheet.false in
+    let there : c.args.ledger.sheet.there ≡ true = not-false _ c.if-not-ledger.false in
     let divides : let a = c.args in c.divisor-d.result ≡ divided_by a.ledger a.index a.level a.set = c.divisor-d.ensures ∙
     (λ i. divisor_of c.args.index (c.total_of-sum.ensures i) (c.served.ensures.0 i)) in
     let a = c.args in
     index_told a.ledger a.index a.level a.set _
-    ((λ i. Is (c.lowest.ensures i)) ∙
-    (λ i. Is (lowest_of (c.top.ensures i) (c.weight.ensures.0 i * divides i))) ∙
-    (λ i. Is (lowest_of (top_of a.index (c.total_of-sum.ensures i)) (formula_of a.ledger a.index a.level a.set).bottom)) ∙
+    ((λ i. Ok (c.lowest.ensures i)) ∙
+    (λ i. Ok (lowest_of (c.top.ensures i) (c.weight.ensures.0 i * divides i))) ∙
+    (λ i. Ok (lowest_of (top_of a.index (c.total_of-sum.ensures i)) (formula_of a.ledger a.index a.level a.set).bottom)) ∙
     sym
     (somebody_answered a.ledger a.index a.level a.set sound there
     (λ e. c.if-d-eq0.false (divides ∙ e))))

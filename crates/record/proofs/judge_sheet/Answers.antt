@@ -11,19 +11,19 @@ use Rattle.record.proofs.judge_sheet.Goals as goal
 pub returns-then-bytes-ne18 : goal.returns-then-bytes-ne18
 returns-then-bytes-ne18 c =
     let a = c.args in
-    c.refuse.ensures ∙ sym (refused_by 1 a.bytes.now a.sheet [] 0 4 (refl, ap not (ne_eqb _ _ c.if-bytes-ne18.true)) (eqb-false 4 0 refl))
+    sym (refused_by 1 a.bytes.now a.sheet [] 0 4 (refl, ap not (ne_eqb _ _ c.if-bytes-ne18.true)) (eqb-false 4 0 refl))
 
 pub returns-then-sheet : goal.returns-then-sheet
 returns-then-sheet c =
     let a = c.args in
-    c.refuse-then-sheet.ensures ∙ sym (refused_by 1 a.bytes.now a.sheet [] 0 5 (refl, (ap not (eq-eqb _ _ c.if-bytes-ne18.false), c.if-sheet.true)) (eqb-false 5 0 refl))
+    sym (refused_by 1 a.bytes.now a.sheet [] 0 5 (refl, (ap not (eq-eqb _ _ c.if-bytes-ne18.false), c.if-sheet.true)) (eqb-false 5 0 refl))
 
 pub returns-then-not-in_range : goal.returns-then-not-in_range
 returns-then-not-in_range c =
     let a = c.args in
     let out : not (in_range (sheet_in a.bytes.now)) ≡ true =
     ap (λ x. not (in_range x)) (sym c.sheet_of-next.ensures) ∙ ap not (sym c.in_range.ensures) ∙ (ap not c.if-not-in_range.true) in
-    c.refuse-then-not-in_range.ensures ∙ sym (refused_by 1 a.bytes.now a.sheet [] 0 6 (refl, (ap not (eq-eqb _ _ c.if-bytes-ne18.false), (c.if-sheet.false, out))) (eqb-false 6 0 refl))
+    sym (refused_by 1 a.bytes.now a.sheet [] 0 6 (refl, (ap not (eq-eqb _ _ c.if-bytes-ne18.false), (c.if-sheet.false, out))) (eqb-false 6 0 refl))
 
 pub returns : goal.returns
 returns c =

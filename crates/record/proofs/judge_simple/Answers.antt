@@ -6,51 +6,50 @@ use borrow.Author.Tests.{eq-eqb, ne_eqb, eqb-false}
 use Rattle.annex.specs.Simple.{simple_figures, InOrder}
 use Rattle.fields.specs.Fields.{head_in, simple_in}
 use Rattle.limits.proofs.LimitLaws.{simple_ordered}
-use Rattle.verdict.specs.Verdict.{refused_with, event_verdict}
+use Rattle.verdict.specs.Verdict.{event_verdict}
+use Rattle.std.proofs.lemmas.Result.{err_from_is_err_and}
+use Rattle.refusals.specs.Refusals.{answer_in}
 use Rattle.base.specs.First.{first}
 use Rattle.record.specs.Inside.{simple_tests, answer_at}
-use Rattle.record.proofs.JudgeLaws.{refused_by, at_refused, at_accepted, simple_answer, simple_timely}
+use Rattle.record.proofs.JudgeLaws.{refused_by, at_accepted, simple_answer, simple_timely, err_refuses, ok_answers_0}
 use Rattle.record.proofs.judge_simple.Goals as goal
 
 pub returns-then-bytes-ne53 : goal.returns-then-bytes-ne53
 returns-then-bytes-ne53 c =
     let a = c.args in
-    c.refuse.ensures ∙
     sym
     (refused_by 2 a.bytes.now a.sheet a.map.now a.events 4 (refl, ap not (ne_eqb _ _ c.if-bytes-ne53.true)) (eqb-false 4 0 refl))
 
-pub returns-then-answer-ne0 : goal.returns-then-answer-ne0
-returns-then-answer-ne0 c =
-    let answer_is : let a = c.args in c.simple_answer-answer.result ≡ answer_at 2 a.bytes.now a.sheet a.map.now a.events = let a = c.args in
-    c.simple_answer-answer.ensures ∙
-    (λ i. first (simple_tests (c.head_of-head.ensures i) (c.simple_of-e.ensures i) a.sheet a.map.now a.events)) ∙
-    sym (simple_answer a.bytes.now a.sheet a.map.now a.events (ap not (eq-eqb _ _ c.if-bytes-ne53.false))) in
+pub returns-in_err-admit_simple : goal.returns-in_err-admit_simple
+returns-in_err-admit_simple c =
     let a = c.args in
-    let e = answer_is in
-    c.refuse-then-answer-ne0.ensures ∙
-    ap (refused_with a.sheet) e ∙
-    sym (at_refused 2 a.bytes.now a.sheet a.map.now a.events _ refl (λ z. c.if-answer-ne0.true (e ∙ z)))
+    let answered : answer_in c.admit_simple.result ≡ answer_at 2 a.bytes.now a.sheet a.map.now a.events =
+    c.admit_simple.ensures ∙
+    (λ i. first (simple_tests (c.head_of-head.ensures i) (c.simple_of-event.ensures i) a.sheet a.map.now a.events)) ∙
+    sym (simple_answer a.bytes.now a.sheet a.map.now a.events (ap not (eq-eqb _ _ c.if-bytes-ne53.false))) in
+    let p = err_from_is_err_and c.from_residual.result c.from_residual.ensures.1 in
+    rw (p.1, p.2) (err_refuses 2 a.bytes.now a.sheet a.map.now a.events c.admit_simple.result answered _ (c.in_err-admit_simple.was))
 
 pub figures-requires : goal.figures-requires
 figures-requires c =
-    let answer_is : let a = c.args in c.simple_answer-answer.result ≡ answer_at 2 a.bytes.now a.sheet a.map.now a.events = let a = c.args in
-    c.simple_answer-answer.ensures ∙
-    (λ i. first (simple_tests (c.head_of-head.ensures i) (c.simple_of-e.ensures i) a.sheet a.map.now a.events)) ∙
-    sym (simple_answer a.bytes.now a.sheet a.map.now a.events (ap not (eq-eqb _ _ c.if-bytes-ne53.false))) in
     let a = c.args in
-    let z = sym answer_is ∙ c.if-answer-ne0.false in
-    subst⁻¹ InOrder c.simple_of-e.ensures
+    let answered : answer_in c.admit_simple.result ≡ answer_at 2 a.bytes.now a.sheet a.map.now a.events =
+    c.admit_simple.ensures ∙
+    (λ i. first (simple_tests (c.head_of-head.ensures i) (c.simple_of-event.ensures i) a.sheet a.map.now a.events)) ∙
+    sym (simple_answer a.bytes.now a.sheet a.map.now a.events (ap not (eq-eqb _ _ c.if-bytes-ne53.false))) in
+    let z = ok_answers_0 2 a.bytes.now a.sheet a.map.now a.events c.admit_simple.result answered _ (c.in_ok-admit_simple.was) in
+    subst⁻¹ InOrder c.simple_of-event.ensures
     (simple_ordered (head_in a.bytes.now).typ (simple_in a.bytes.now) (simple_timely a.bytes.now a.sheet a.map.now a.events z))
 
 pub returns : goal.returns
 returns c =
-    let answer_is : let a = c.args in c.simple_answer-answer.result ≡ answer_at 2 a.bytes.now a.sheet a.map.now a.events = let a = c.args in
-    c.simple_answer-answer.ensures ∙
-    (λ i. first (simple_tests (c.head_of-head.ensures i) (c.simple_of-e.ensures i) a.sheet a.map.now a.events)) ∙
-    sym (simple_answer a.bytes.now a.sheet a.map.now a.events (ap not (eq-eqb _ _ c.if-bytes-ne53.false))) in
     let a = c.args in
-    let z = sym answer_is ∙ c.if-answer-ne0.false in
-    let e = c.simple_of-e.ensures in
+    let answered : answer_in c.admit_simple.result ≡ answer_at 2 a.bytes.now a.sheet a.map.now a.events =
+    c.admit_simple.ensures ∙
+    (λ i. first (simple_tests (c.head_of-head.ensures i) (c.simple_of-event.ensures i) a.sheet a.map.now a.events)) ∙
+    sym (simple_answer a.bytes.now a.sheet a.map.now a.events (ap not (eq-eqb _ _ c.if-bytes-ne53.false))) in
+    let z = ok_answers_0 2 a.bytes.now a.sheet a.map.now a.events c.admit_simple.result answered _ (c.in_ok-admit_simple.was) in
+    let e = c.simple_of-event.ensures in
     c.accept.ensures ∙
     (λ i. event_verdict a.sheet (c.head_of-head.ensures i) (e i).t3 ((c.figures.ensures ∙ ap simple_figures e) i)) ∙
     sym (at_accepted 2 a.bytes.now a.sheet a.map.now a.events z)

@@ -1,8 +1,8 @@
 use Rattle.std.proofs.Common.{length, ◌-◌, ◌≤◌}
 use Rattle.refill.proofs.read_full.Given as goal
 
-abbrev pub invariant-loop-held : goal.invariant-loop-held
-invariant-loop-held g l = l.held ≤ length l.buffer
+abbrev pub invariant-loop-filled : goal.invariant-loop-filled
+invariant-loop-filled g l = l.held ≤ length l.buffer
 
-abbrev pub decreases-loop-held : goal.decreases-loop-held
-decreases-loop-held g l = length l.buffer - l.held
+abbrev pub decreases-loop-filled : goal.decreases-loop-filled
+decreases-loop-filled g l = length l.buffer - l.held

@@ -16,12 +16,12 @@ returns-then-not-sound c =
     let a = c.args in
     let sound = c.sound in
     let e : sound_ledger a.ledger ≡ false = sym sound.ensures ∙ c.if-not-sound.true in
-    ap (λ (t : Text). record { answer = 1; text = t }) c.empty.ensures ∙ sym (unsound_no_text a.ledger a.refused e)
+    sym (unsound_no_text a.ledger a.refused e)
 
-pub returns-then-sheet : goal.returns-then-sheet
-returns-then-sheet c =
+pub returns-then-ledger : goal.returns-then-ledger
+returns-then-ledger c =
     let is-sound : sound_ledger c.args.ledger ≡ true = let sound = c.sound in sym sound.ensures ∙ c.if-not-sound.false in
-    let head-pushed : c.with_head-head.result ≡ pushed_all (text_of []) (head_text c.args.ledger c.args.refused) = c.with_head-head.ensures ∙ ap (λ (t : Text). pushed_all t (head_text c.args.ledger c.args.refused)) c.empty-2.ensures in
+    let head-pushed : c.with_head-head.result ≡ pushed_all (text_of []) (head_text c.args.ledger c.args.refused) = c.with_head-head.ensures ∙ ap (λ (t : Text). pushed_all t (head_text c.args.ledger c.args.refused)) c.empty.ensures in
     let a = c.args in
     let l = a.ledger in
     let head : List ℕ = head_text l a.refused in
@@ -30,15 +30,15 @@ returns-then-sheet c =
     (c.with_lines.ensures ∙
     ap (λ (t : Text). pushed_all t lines) head-pushed ∙
     sym (pushed_all_append (text_of []) head lines) ∙
-    ap (pushed_all (text_of [])) (sym (lines_with_sheet l a.refused c.if-sheet.true)))
+    ap (pushed_all (text_of [])) (sym (lines_with_sheet l a.refused c.if-ledger.true)))
     is-sound
 
 pub returns : goal.returns
 returns c =
     let is-sound : sound_ledger c.args.ledger ≡ true = let sound = c.sound in sym sound.ensures ∙ c.if-not-sound.false in
-    let head-pushed : c.with_head-head.result ≡ pushed_all (text_of []) (head_text c.args.ledger c.args.refused) = c.with_head-head.ensures ∙ ap (λ (t : Text). pushed_all t (head_text c.args.ledger c.args.refused)) c.empty-2.ensures in
+    let head-pushed : c.with_head-head.result ≡ pushed_all (text_of []) (head_text c.args.ledger c.args.refused) = c.with_head-head.ensures ∙ ap (λ (t : Text). pushed_all t (head_text c.args.ledger c.args.refused)) c.empty.ensures in
     let a = c.args in
     let l = a.ledger in
     report_whole l a.refused c.with_head-head.result
-    (head-pushed ∙ ap (pushed_all (text_of [])) (sym (head_without_sheet l a.refused c.if-sheet.false)))
+    (head-pushed ∙ ap (pushed_all (text_of [])) (sym (head_without_sheet l a.refused c.if-ledger.false)))
     is-sound

@@ -6,11 +6,9 @@ pub returns : goal.returns
 returns c =
     simp (
       pushed_all_append,
-      c.with_byte-2.ensures,
+      c.with_byte.ensures,
       c.with_index.ensures,
       c.with_index-c.ensures,
       c.with_index-b.ensures,
-      c.with_set-a.ensures,
-      c.with_byte.ensures,
-      c.with_level.ensures,
+      c.with_name-a.ensures,
     )

@@ -1,16 +1,16 @@
 -- A code that names none is refused first, then an output of another length; else the ledger handed on stands for the words, and what `index_of`
 -- and `put` make of it is what the definition says. Assumes nothing.
+use Prim.Native.Nat.{ℕ}
 use mathlib.Core.Path.{◌≡◌, sym, ap, ◌∙◌}
-use mathlib.Core.List.{[], ◌∷◌}
-use lib.ListN.{length, get_or}
+use mathlib.Core.List.{List}
+use lib.ListN.{length, get_or, drop}
 use borrow.Author.Tests.{eq-eqb, ne_eqb}
-use Rattle.index.specs.declared.Answer.{Answer}
 use Rattle.index.specs.Index.{index_of, exactly}
 use Rattle.index.proofs.NumberLaws.{index_is}
 use Rattle.c_words.specs.Header.{headed, if_accepted}
 use Rattle.c_words.specs.Inside.{lent_ledger}
-use Rattle.c_codes.specs.Named.{index_named, level_named, set_named}
-use Rattle.temelyak.proofs.CallLaws.{pair_in, index_unnamed, index_paired, index_unpaired}
+use Rattle.c_codes.specs.Named.{index_named, level_named, set_named, numbers_in}
+use Rattle.temelyak.proofs.CallLaws.{answer_first, words_after, index_unnamed, index_paired, index_unpaired}
 use Rattle.temelyak.proofs.temelyak_index.Goals as goal
 
 pub returns-then-not-all_named : goal.returns-then-not-all_named
@@ -38,11 +38,13 @@ returns c =
     let asked : c.index_of-answer.result ≡ index_of (lent_ledger a.header a.ledger.now) (index_named a.index) (level_named a.level) (set_named a.set) =
     index_is _ _ _ _ _ c.index_of-answer.ensures ∙
     (λ i. index_of (c.lent_ledger-lent.ensures i) (c.index_named.ensures i) (c.level_named.ensures i) (c.set_named.ensures i)) in
-    let pair = c.fraction_pair.ensures in
+    let pair = c.fraction_pair.result in
+    let numbers : numbers_in pair ≡ exactly (index_of (lent_ledger a.header a.ledger.now) (index_named a.index) (level_named a.level) (set_named a.set)) =
+    c.fraction_pair.ensures ∙ ap exactly asked in
     let put = c.put.ensures in (
-      put.0 ∙ ap (headed a.header) pair.0 ∙ ap (λ (x : Answer). headed a.header (get_or (exactly x) 0 0)) asked ∙ u.0,
+      put.0 ∙ ap (headed a.header) (answer_first pair) ∙ ap (λ (ns : List ℕ). headed a.header (get_or ns 0 0)) numbers ∙ u.0,
       put.1 ∙
-          (λ i. if_accepted (headed a.header (pair.0 i)) (pair.1 i ∷ pair.2 i ∷ []) out) ∙
-          ap (λ (x : Answer). if_accepted (headed a.header (get_or (exactly x) 0 0)) (pair_in (exactly x)) out) asked ∙
+          (λ i. if_accepted (headed a.header (answer_first pair i)) (words_after pair i) out) ∙
+          ap (λ (ns : List ℕ). if_accepted (headed a.header (get_or ns 0 0)) (drop 1 ns) out) numbers ∙
           u.1,
     )

@@ -1,7 +1,7 @@
 -- The ledger handed on stands for the words; what `serve` and `settle_served` make of it is what the definition says. Assumes nothing.
 use mathlib.Core.Path.{ap, ◌∙◌}
 use Rattle.ledger.specs.declared.Ledger.{Ledger}
-use Rattle.desk_rules.specs.declared.Served.{Served}
+use Rattle.desk_rules.specs.Plan.{Served}
 use Rattle.desk_rules.specs.Serve.{served_of, map_served, desk_served}
 use Rattle.c_words.specs.Header.{headed}
 use Rattle.c_words.specs.Inside.{settled}

@@ -1,8 +1,7 @@
 -- The ledger handed on stands for the words; what `take` and `settle` make of it is what the definition says. Assumes nothing.
 use mathlib.Core.Path.{ap, ◌∙◌}
 use Rattle.ledger.specs.declared.Ledger.{Ledger}
-use Rattle.ledger.specs.declared.Taken.{Taken}
-use Rattle.ledger.specs.Take.{map_after, taken_of}
+use Rattle.ledger.specs.Take.{Taken, map_after, taken_of}
 use Rattle.c_words.specs.Header.{headed}
 use Rattle.c_words.specs.Inside.{settled}
 use Rattle.temelyak.proofs.CallLaws.{take_answer_is, take_words_is, take_map_is}

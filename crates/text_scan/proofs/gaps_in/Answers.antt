@@ -1,22 +1,17 @@
--- At each turn the gaps of the line are those passed and those of what is left. Assumes nothing.
-use mathlib.Core.Path.{sym, ◌∙◌}
-use borrow.Author.Rules.{rules}
-use Rattle.text_scan.proofs.ScanLaws.{gap_goes, gap_stops, gap_ends}
+-- The gaps in front end at the first byte that is none, whose place is the library's. Assumes nothing.
+use Prim.Native.Nat.{ℕ}
+use mathlib.Core.Path.{◌∙◌}
+use mathlib.Core.Bool.{not}
+use Rattle.std.proofs.Common.{rules, tests}
+use Rattle.std.proofs.lemmas.Iterator.{YieldsList-from_slice}
+use Rattle.std.proofs.lemmas.Iterator.Search.{position_from_yields_List}
+use Rattle.text_scan.specs.Scan.{is_gap}
+use Rattle.text_scan.proofs.ScanLaws.{first_told, gaps_are}
 use Rattle.text_scan.proofs.gaps_in.Goals as goal
 
-pub returns-then-not-is_gap : goal.returns-then-not-is_gap
-returns-then-not-is_gap c =
-    let s = c.args.s.now in
-    let l = c.loop-i in
-    let none = sym c.is_gap.ensures ∙ c.if-not-is_gap.true in
-    sym (l.invariant.1 ∙ gap_stops s l.i c.loop-i-test.true none)
-
-pub loop-i-preserved : goal.loop-i-preserved
-loop-i-preserved c =
-    let s = c.args.s.now in
-    let l = c.loop-i in
-    let gap = sym c.is_gap.ensures ∙ c.if-not-is_gap.false in
-    (search rules, l.invariant.1 ∙ gap_goes s l.i c.loop-i-test.true gap)
-
 pub returns : goal.returns
-returns c = let l = c.loop-i in sym (l.invariant.1 ∙ gap_ends c.args.s.now l.i c.loop-i-test.false)
+returns c =
+    let a = c.args in
+    let test = (λ (b : ℕ). not (is_gap b)) in
+    let place = position_from_yields_List test _ _ c.position.result c.position.ensures.ran (YieldsList-from_slice a.s.now cc) (λ x b q k. search (rules, tests)) in
+    c.unwrap_or.ensures ∙ first_told test a.s.now c.position.result place ∙ gaps_are a.s.now

@@ -1,29 +1,16 @@
--- At each turn the place of the first such byte is that of what is left, past the bytes that are others. Assumes nothing.
+-- The place is the library's. Assumes nothing.
 use Prim.Native.Nat.{ℕ}
-use mathlib.Core.Path.{sym, ◌∙◌}
+use mathlib.Core.Path.{◌∙◌}
 use lib.Dec.{eqb}
-use lib.ListN.{get_or}
-use borrow.Author.Rules.{rules}
-use borrow.Author.Tests.{eq-eqb, ne_eqb}
-use Rattle.text_scan.proofs.ScanLaws.{first_goes, first_stops, first_none}
+use Rattle.std.proofs.Common.{rules, tests}
+use Rattle.std.proofs.lemmas.Iterator.{YieldsList-from_slice}
+use Rattle.std.proofs.lemmas.Iterator.Search.{position_from_yields_List}
+use Rattle.text_scan.proofs.ScanLaws.{first_told}
 use Rattle.text_scan.proofs.place_of.Goals as goal
-
-pub returns-then-gap-at : goal.returns-then-gap-at
-returns-then-gap-at c =
-    let a = c.args in
-    let l = c.loop-at in
-    let is = eq-eqb (get_or a.gap.now l.at 0) a.sep c.if-gap-at.true in
-    sym (l.invariant.1 ∙ first_stops (λ (b : ℕ). eqb b a.sep) a.gap.now l.at c.loop-at-test.true is)
-
-pub loop-at-preserved : goal.loop-at-preserved
-loop-at-preserved c =
-    let a = c.args in
-    let l = c.loop-at in
-    let none = ne_eqb (get_or a.gap.now l.at 0) a.sep c.if-gap-at.false in
-    (search rules, l.invariant.1 ∙ first_goes (λ (b : ℕ). eqb b a.sep) a.gap.now l.at c.loop-at-test.true none)
 
 pub returns : goal.returns
 returns c =
     let a = c.args in
-    let l = c.loop-at in
-    sym (l.invariant.1 ∙ first_none (λ (b : ℕ). eqb b a.sep) a.gap.now l.at c.loop-at-test.false)
+    let test = (λ (b : ℕ). eqb b a.sep) in
+    let place = position_from_yields_List test _ _ c.position.result c.position.ensures.ran (YieldsList-from_slice a.gap.now cc) (λ x b q k. search (rules, tests)) in
+    c.unwrap_or.ensures ∙ first_told test a.gap.now c.position.result place

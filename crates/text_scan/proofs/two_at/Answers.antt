@@ -1,18 +1,18 @@
--- Where two digits stand their bytes are read, and a digit's number is its byte less 0's. Assumes nothing.
+-- Where two digits stand their place is below 16, their bytes are read, and a digit's number is its byte less 0's. Assumes nothing.
 use Prim.Native.Nat.{ℕ, ◌+◌, ◌-◌}
-use mathlib.Core.Path.{◌≡◌, ap, ◌∙◌}
+use mathlib.Core.Path.{◌≡◌, sym, ap, ◌∙◌}
+use native.Mathlib.Omega.{arith}
 use Rattle.wire.specs.Numbers.{byte_at}
 use Rattle.text_scan.specs.Scan.{two_at}
-use Rattle.text_scan.proofs.ScanLaws.{none_far}
+use Rattle.text_scan.proofs.ScanLaws.{near_stand}
 use Rattle.text_scan.proofs.two_at.Goals as goal
 
 pub returns-then-not-two_stand : goal.returns-then-not-two_stand
 unfolding two_at
 returns-then-not-two_stand c = rw (two_at, ← c.two_stand.ensures, c.if-not-two_stand.true)
 
-pub returns-then-at-ge16 : goal.returns-then-at-ge16
-unfolding two_at
-returns-then-at-ge16 c = rw (two_at, none_far c.args.s.now c.args.at c.if-at-ge16.true)
+pub overflow_add-at : goal.overflow_add-at
+overflow_add-at c = omega (arith, near_stand c.args.s.now c.args.at (sym c.two_stand.ensures ∙ c.if-not-two_stand.false))
 
 pub returns : goal.returns
 unfolding two_at

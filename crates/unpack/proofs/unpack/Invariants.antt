@@ -1,10 +1,7 @@
-use Prim.Native.Nat.{◌-◌, ◌≤◌}
 use mathlib.Core.Path.{◌≡◌}
+use Rattle.text_items.specs.Sorts.{sort_number}
 use Rattle.unpack.proofs.UnpackLaws.{filled}
 use Rattle.unpack.proofs.unpack.Given as goal
 
 abbrev pub invariant-loop-k : goal.invariant-loop-k
-invariant-loop-k l = (l.values ≡ filled l.k l.s l.kind) × (l.k ≤ l.count) × (l.count ≤ 261)
-
-abbrev pub decreases-loop-k : goal.decreases-loop-k
-decreases-loop-k l = l.count - l.k
+invariant-loop-k l = l.values ≡ filled l.k l.s (sort_number l.kind)

@@ -16,5 +16,5 @@ pub returns : goal.returns
 returns c =
     let a = c.args in
     let e : is_short a.head.t0 a.end ≡ false = sym c.is_short.ensures ∙ c.if-is_short.false in
-    (λ i. record { answer = 0; sheet = a.sheet; number = a.head.number; events = 1; short = 0; row = c.row_of-2.ensures i; figures = a.figures }) ∙
+    (λ i. record { answer = 0; sheet = a.sheet; number = a.head.number; events = 1; short = 0; row = c.row_of.ensures i; figures = a.figures }) ∙
     sym (event_counted a.sheet a.head a.end a.figures e)

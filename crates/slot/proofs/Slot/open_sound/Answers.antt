@@ -36,30 +36,21 @@ returns-then-not-listed c =
     let s = c.args.self in
     refuted s (head_listed s.head) (sym c.listed.ensures ∙ c.if-not-listed.true) (open_listed s)
 
-pub returns-then-head-self : goal.returns-then-head-self
-returns-then-head-self c =
+pub returns-then-self : goal.returns-then-self
+returns-then-self c =
     let s = c.args.self in
-    not_open_lem s (λ o. true≢false (sym c.if-head-self.true ∙ open-near s o))
+    not_open_lem s (λ o. true≢false (sym c.if-self.true ∙ open-near s o))
 
 pub overflow_sub-minutes : goal.overflow_sub-minutes
 overflow_sub-minutes c =
     let s = c.args.self in
-    (near s c.if-head-self.false).1
+    (near s c.if-self.false).1
 
 pub returns-then-not-level_within : goal.returns-then-not-level_within
 returns-then-not-level_within c =
     let s = c.args.self in
-    refuted s (within s 0) (sym c.level_within.ensures ∙ c.if-not-level_within.true) (λ o. open_level s o 0 (omega arith))
-
-pub returns-then-not-level_within-2 : goal.returns-then-not-level_within-2
-returns-then-not-level_within-2 c =
-    let s = c.args.self in
-    refuted s (within s 1) (sym c.level_within-2.ensures ∙ c.if-not-level_within-2.true) (λ o. open_level s o 1 (omega arith))
-
-pub returns-then-not-level_within-3 : goal.returns-then-not-level_within-3
-returns-then-not-level_within-3 c =
-    let s = c.args.self in
-    refuted s (within s 2) (sym c.level_within-3.ensures ∙ c.if-not-level_within-3.true) (λ o. open_level s o 2 (omega arith))
+    let level = c.loop-level.level in
+    refuted s (within s level) (sym c.level_within.ensures ∙ c.if-not-level_within.true) (λ o. open_level s o level (omega arith))
 
 pub returns-then-figures_above : goal.returns-then-figures_above
 returns-then-figures_above c =
@@ -70,7 +61,7 @@ returns-then-figures_above c =
 pub returns : goal.returns
 returns c =
     let s = c.args.self in
-    let k = near s c.if-head-self.false in
+    let k = near s c.if-self.false in
     let above = c.figures_above.ensures ∙ (λ i. figures_above (c.level_of.ensures i) s.figures) in
     (λ i. ltb 0 s.steps || (eqb s.last s.head.t0 && c.no_customers.ensures i)) ∙
     last_decides s
@@ -79,7 +70,7 @@ returns c =
     k.1
     k.2
     k.3
-    (sym c.level_within.ensures ∙ c.if-not-level_within.false)
-    (sym c.level_within-2.ensures ∙ c.if-not-level_within-2.false)
-    (sym c.level_within-3.ensures ∙ c.if-not-level_within-3.false)
+    (c.loop-level.invariant 0 (omega arith))
+    (c.loop-level.invariant 1 (omega arith))
+    (c.loop-level.invariant 2 (omega arith))
     (sym above ∙ c.if-figures_above.false)
