@@ -28,7 +28,6 @@ ghost use Rattle.std.specs.Prelude.{◌≡◌, length};
 ghost use Rattle.wire.specs.Book.{which_at, record_at, after_at};
 ghost use Rattle.wire.specs.Cut.{records_of, stop_from, ends_by};
 
-use book::Read;
 use ledger::{Cell, Ledger};
 use reader::Reader;
 
@@ -72,13 +71,6 @@ fn print_levels(out: &impl Print, first: u64, last: u64) {
             cases::write_number(out, codes::level_of(code));
         }
     }
-}
-
-fn print_read(out: &impl Print, read: Read) {
-    cases::write_number(out, read.answer);
-    print_counts(out, read.ledger);
-    cases::write_numbers(out, &[read.refused, u64::from(read.broken)]);
-    print_first_cell(out, read.ledger);
 }
 
 // Something that is no line, or no case.
@@ -229,8 +221,8 @@ impl Bench {
         let told = self.told(out, what);
         let size = self.size.min(self.map.len());
         let taken = self.ledger.take(&mut self.map[..size], told.part());
-        self.ledger = taken.ledger;
-        cases::write_number(out, taken.answer);
+        cases::write_number(out, cases::answer_of(&taken));
+        self.ledger = taken.unwrap_or(self.ledger);
         match letter {
             b'a' => {
                 print_counts(out, self.ledger);
@@ -245,9 +237,18 @@ impl Bench {
     fn read(&mut self, out: &impl Print, what: &[u8]) {
         let told = self.told(out, what);
         let size = self.size.min(self.map.len());
-        let read = book::take_book(self.ledger, &mut self.map[..size], told.part());
-        self.ledger = read.ledger;
-        print_read(out, read);
+        let outcome = book::take_book(self.ledger, &mut self.map[..size], told.part());
+        let (refused, broken) = match &outcome {
+            Ok(read) => {
+                self.ledger = read.ledger;
+                (read.refused, read.broken)
+            }
+            Err(_) => (0, false),
+        };
+        cases::write_number(out, cases::answer_of(&outcome));
+        print_counts(out, self.ledger);
+        cases::write_numbers(out, &[refused, u64::from(broken)]);
+        print_first_cell(out, self.ledger);
     }
 
     // A case `next`: what a reader of its bytes answers at its offset.

@@ -2,8 +2,10 @@
 #![tactic(auto)]
 
 use ledger::Ledger;
+use refill::Failed;
+use refusals::Refusal;
 use std::io::Read;
-use text_items::Entry;
+use text_items::{Entry, Sort};
 use wire::Place;
 
 // More pieces than any file has: 2^40. Past them the reading has failed.
@@ -30,31 +32,28 @@ fn accepted(short: bool) -> &'static str {
     }
 }
 
-// The answer to a broken length.
-const BROKEN: u8 = 2;
-
 // The comment on a refused record. On some there is none: in a book that is read from its beginning map and ledger are sound (1), 8, 9 and 16 are the
 // desk's, and a ledger that is full (15) has every number marked (14).
-fn refused(answer: u8) -> &'static str {
-    match answer {
-        2 =>
+fn refused(refusal: Refusal) -> &'static str {
+    match refusal {
+        Refusal::Frame =>
             "# refused, 2: the length in front of these bytes is wrong or they break off, and nothing after it can be read\n",
-        3 =>
+        Refusal::Kind =>
             "# refused, 3: a book takes year sheets, simple events and stepped events, and this is none of them\n",
-        4 =>
+        Refusal::Length =>
             "# refused, 4: the length is wrong for this kind of record, or it does not have 1 to 64 steps\n",
-        5 =>
+        Refusal::Sheet =>
             "# refused, 5: an event needs a year sheet before it, and a book takes one sheet only\n",
-        6 =>
+        Refusal::Range =>
             "# refused, 6: the year is not 2000 to 2099, or a level has more than 10,000,000 customers\n",
-        7 =>
+        Refusal::Code =>
             "# refused, 7: the number is 0, or the type, the voltage or the cause is not one of the annex's\n",
-        10 =>
+        Refusal::Time =>
             "# refused, 10: the times are out of order, or past the year's end or minute 600,000, or a planned outage has T1 after T0\n",
-        11 => "# refused, 11: more customers are off on a level than the year sheet has there\n",
-        12 => "# refused, 12: customers are off on a level above the one of the event's voltage\n",
-        13 => "# refused, 13: on some level n1 is 0 and n2 is not\n",
-        14 => "# refused, 14: an event with this number is in the book already\n",
+        Refusal::Count => "# refused, 11: more customers are off on a level than the year sheet has there\n",
+        Refusal::Level => "# refused, 12: customers are off on a level above the one of the event's voltage\n",
+        Refusal::NoneThenSome => "# refused, 13: on some level n1 is 0 and n2 is not\n",
+        Refusal::Used => "# refused, 14: an event with this number is in the book already\n",
         _ => "",
     }
 }
@@ -117,7 +116,7 @@ impl<'a, P: Print> Page<'a, P> {
 
     fn say_record(&mut self, record: &[u8], year: u16) {
         let entry = unpack::unpack(record);
-        if entry.kind == text_items::BLANK {
+        if entry.kind == Sort::Blank {
             self.say_bytes(record);
         } else {
             self.say_line(entry, year);
@@ -130,29 +129,26 @@ impl<'a, P: Print> Page<'a, P> {
         reader: &mut impl Read,
         buffer: &mut [u8],
         count: usize,
-    ) -> Result<(), Unread> {
+    ) -> Result<(), Failed> {
         let mut held = count;
         for _ in 0..MOST_PIECES {
             let over = held % 32;
             let whole = held - over;
             self.say_bytes(wire::part(&buffer[..], 0, whole));
             records::move_to_front(buffer, whole, held);
-            let filled = refill::read_behind(reader, buffer, over);
-            if filled.ended {
-                self.say_bytes(wire::part(&buffer[..], 0, over));
-                return if filled.failed { Err(Unread) } else { Ok(()) };
+            match refill::read_behind(reader, buffer, over) {
+                Ok(Some(count)) => held = count,
+                ended => {
+                    self.say_bytes(wire::part(&buffer[..], 0, over));
+                    return ended.map(|_| ());
+                }
             }
-            held = filled.count;
         }
-        Err(Unread)
+        Err(Failed)
     }
 }
 
 // ---- the book
-
-// The input cannot be read to its end.
-#[derive(Drop)]
-struct Unread;
 
 // A book being read: its ledger and its map of used numbers, the year that times are told in, and the page.
 #[derive(Drop)]
@@ -175,13 +171,13 @@ impl<'a, P: Print> Book<'a, P> {
 
     // One record: its answer, and its line.
     fn take_record(&mut self, record: &[u8]) {
-        let before = self.ledger.short;
-        let taken = self.ledger.take(&mut self.map, record);
-        self.ledger = taken.ledger;
-        self.page.say(match taken.answer {
-            0 => accepted(before < self.ledger.short),
-            answer => refused(answer),
-        });
+        match self.ledger.take(&mut self.map, record) {
+            Ok(next) => {
+                self.page.say(accepted(self.ledger.short < next.short));
+                self.ledger = next;
+            }
+            Err(refusal) => self.page.say(refused(refusal)),
+        }
         self.page.say_record(record, self.year);
         self.year = unpack::year_after(self.year, record);
     }
@@ -200,33 +196,29 @@ impl<'a, P: Print> Book<'a, P> {
     }
 
     // Takes the records of a book, to its end or to a broken length: how many bytes are held at the buffer's front that are no record.
-    fn take_book(&mut self, reader: &mut impl Read, buffer: &mut [u8]) -> Result<usize, Unread> {
+    fn take_book(&mut self, reader: &mut impl Read, buffer: &mut [u8]) -> Result<usize, Failed> {
         let mut held = 0;
         for _ in 0..MOST_PIECES {
-            let filled = refill::read_behind(reader, buffer, held);
-            if filled.failed {
-                return Err(Unread);
-            }
-            if filled.ended {
+            let Some(count) = refill::read_behind(reader, buffer, held)? else {
                 return Ok(held);
-            }
-            let stop = self.take_records(wire::part(&buffer[..], 0, filled.count));
-            held = filled.count.checked_sub(stop).ok_or(Unread)?;
-            records::move_to_front(buffer, stop, filled.count);
+            };
+            let stop = self.take_records(wire::part(&buffer[..], 0, count));
+            held = count.checked_sub(stop).ok_or(Failed)?;
+            records::move_to_front(buffer, stop, count);
             if records::is_dead(&buffer[..], held) {
                 return Ok(held);
             }
         }
-        Err(Unread)
+        Err(Failed)
     }
 
     // Says a book, and all bytes from a broken length on where it does not end at a record's end.
-    fn say(&mut self, reader: &mut impl Read, buffer: &mut [u8]) -> Result<(), Unread> {
+    fn say(&mut self, reader: &mut impl Read, buffer: &mut [u8]) -> Result<(), Failed> {
         let held = self.take_book(reader, buffer)?;
         if held == 0 {
             return Ok(());
         }
-        self.page.say(refused(BROKEN));
+        self.page.say(refused(Refusal::Frame));
         self.page.say_rest(reader, buffer, held)
     }
 }

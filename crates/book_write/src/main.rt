@@ -2,9 +2,12 @@
 // unless all of it is right.
 #![tactic(auto)]
 
+use likeness::Likeness;
 use std::fs::File;
 use std::io::Read;
 use std::rt::{Env, Files};
+use text_items::Sort;
+use text_scan::{Expected, Wrong};
 
 // More pieces than any file has: 2^40. Past them the reading has failed.
 const MOST_PIECES: u64 = 1099511627776;
@@ -29,45 +32,43 @@ fn complain(err: &impl Print, what: &[u8], why: &[u8]) {
 }
 
 // What stands in the place of another thing, and what to write.
-fn likeness_sentence(what: u8) -> &'static str {
-    match what {
-        likeness::BYTE_ORDER_MARK =>
+fn likeness_sentence(likeness: Likeness) -> &'static str {
+    match likeness {
+        Likeness::ByteOrderMark =>
             "a byte-order mark: save the text without one, in a spreadsheet as CSV and not as CSV UTF-8",
-        likeness::QUOTED => "a quotation mark: write words and numbers without any",
-        likeness::CAPITALS =>
+        Likeness::Quoted => "a quotation mark: write words and numbers without any",
+        Likeness::Capitals =>
             "a word in capital letters: write sheet, simple, stepped or hex in small ones",
-        likeness::HEADER => "a header row: write # before it, and it is a comment",
-        likeness::OTHER_TIME =>
+        Likeness::Header => "a header row: write # before it, and it is a comment",
+        Likeness::OtherTime =>
             "a time of another form: write MM-DD hh:mm, as 03-14 01:24, or minutes from 1 January 00:00",
-        _ => "",
     }
 }
 
 // What was expected.
-fn expected_sentence(expected: u8) -> &'static str {
+fn expected_sentence(expected: Expected) -> &'static str {
     match expected {
-        text_scan::WORD => "expected sheet, simple, stepped or hex at the line's beginning",
-        text_scan::NUMBER => "expected a whole number in decimal digits",
-        text_scan::AT_MOST_255 => "expected a number of at most 255",
-        text_scan::AT_MOST_65535 => "expected a number of at most 65535",
-        text_scan::AT_MOST_4294967295 => "expected a number of at most 4294967295",
-        text_scan::TIME => "expected a time: minutes from 1 January 00:00, or MM-DD hh:mm",
-        text_scan::SHEET_BEFORE =>
+        Expected::Word => "expected sheet, simple, stepped or hex at the line's beginning",
+        Expected::Number => "expected a whole number in decimal digits",
+        Expected::AtMost255 => "expected a number of at most 255",
+        Expected::AtMost65535 => "expected a number of at most 65535",
+        Expected::AtMost4294967295 => "expected a number of at most 4294967295",
+        Expected::Time => "expected a time: minutes from 1 January 00:00, or MM-DD hh:mm",
+        Expected::SheetBefore =>
             "expected a sheet that is in range on a line before a time as MM-DD hh:mm; minutes can be written without one",
-        text_scan::DAY_OF_YEAR =>
+        Expected::DayOfYear =>
             "expected a day of the sheet's year, and a time from 00:00 to 23:59",
-        text_scan::TWO_DIGITS => "expected two hexadecimal digits",
-        text_scan::GAP => "expected a space, a tab, a comma, a semicolon or a bar",
-        text_scan::NO_MORE =>
+        Expected::TwoDigits => "expected two hexadecimal digits",
+        Expected::Gap => "expected a space, a tab, a comma, a semicolon or a bar",
+        Expected::NoMore =>
             "expected the line's end: a sheet has 4 numbers, a simple event 15, a stepped event at most 64 steps, hex at most 32 bytes",
-        text_scan::MORE =>
+        Expected::More =>
             "expected more numbers: a sheet has 4, a simple event 15, a stepped event 5 and then 4 for each step, hex at least one byte",
-        text_scan::OTHER_SEPARATOR =>
+        Expected::OtherSeparator =>
             "expected the line's separator: one of comma, semicolon and tab parts all its cells",
-        text_scan::SEPARATOR =>
+        Expected::Separator =>
             "expected the line's separator: in a line of cells a space or a bar alone parts nothing; write 1000, not 1 000",
-        text_scan::EMPTY_CELL => "an empty cell; write 0",
-        _ => "",
+        Expected::EmptyCell => "an empty cell; write 0",
     }
 }
 
@@ -113,11 +114,11 @@ impl<'a, P: Print, E: Print> Text<'a, P, E> {
     }
 
     // What is wrong at a place of a line: what stands there where it has a name, and else what was expected.
-    fn tell_wrong(&self, line: &[u8], at: usize, expected: u8) {
-        self.tell_where(next(at as u64));
-        let sentence = match likeness::likeness_of(line, at, expected, self.year) {
-            0 => expected_sentence(expected),
-            what => likeness_sentence(what),
+    fn tell_wrong(&self, line: &[u8], wrong: Wrong) {
+        self.tell_where(next(wrong.at as u64));
+        let sentence = match likeness::likeness_of(line, wrong.at, wrong.expected, self.year) {
+            Some(likeness) => likeness_sentence(likeness),
+            None => expected_sentence(wrong.expected),
         };
         tell(self.err, sentence.as_bytes());
         tell(self.err, b"\n");
@@ -136,13 +137,15 @@ impl<'a, P: Print, E: Print> Text<'a, P, E> {
 
     // One line, whose bytes are put behind those that wait where the book is to be written.
     fn take_line(&mut self, line: &[u8]) -> Result<(), Told> {
-        let parsed = text_parse::parse(line, self.year);
-        if parsed.answer != 0 {
-            self.tell_wrong(line, parsed.at, parsed.answer);
-            return Err(Told);
-        }
-        let end = pack::pack(&mut self.out, self.at, parsed.entry);
-        if parsed.entry.kind == text_items::SHEET {
+        let entry = match text_parse::parse(line, self.year) {
+            Ok(entry) => entry,
+            Err(wrong) => {
+                self.tell_wrong(line, wrong);
+                return Err(Told);
+            }
+        };
+        let end = pack::pack(&mut self.out, self.at, entry);
+        if entry.kind == Sort::Sheet {
             self.year = unpack::year_after(self.year, wire::part(&self.out, self.at, end));
         }
         self.line = next(self.line);
@@ -184,18 +187,20 @@ impl<'a, P: Print, E: Print> Text<'a, P, E> {
                 tell(self.err, b"expected a line of at most 65535 bytes\n");
                 return Err(Told);
             }
-            let filled = refill::read_behind(reader, buffer, held);
-            if filled.failed {
-                complain(self.err, self.name, b" cannot be read\n");
-                return Err(Told);
-            }
-            if filled.ended {
-                self.take_last(wire::part(&buffer[..], 0, held))?;
-                return Ok(size.saturating_add(held as u64));
-            }
-            let stop = self.take_lines(wire::part(&buffer[..], 0, filled.count))?;
-            records::move_to_front(buffer, stop, filled.count);
-            held = filled.count.saturating_sub(stop);
+            let count = match refill::read_behind(reader, buffer, held) {
+                Ok(Some(count)) => count,
+                Ok(None) => {
+                    self.take_last(wire::part(&buffer[..], 0, held))?;
+                    return Ok(size.saturating_add(held as u64));
+                }
+                Err(_) => {
+                    complain(self.err, self.name, b" cannot be read\n");
+                    return Err(Told);
+                }
+            };
+            let stop = self.take_lines(wire::part(&buffer[..], 0, count))?;
+            records::move_to_front(buffer, stop, count);
+            held = count.saturating_sub(stop);
             size = size.saturating_add(stop as u64);
         }
         Err(Told)

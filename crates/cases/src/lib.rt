@@ -2,6 +2,7 @@
 #![tactic(auto)]
 
 ghost use Rattle.std.specs.Prelude.{◌≡◌, ◌↔◌, ◌+◌, ◌%◌, ◌<◌, ◌≤◌, ◌^◌, ◌++◌, length, slice_index, IsSome, IsTrue};
+ghost use Rattle.refusals.specs.Refusals.{answer_in};
 ghost use Rattle.wire.specs.Numbers.{byte_at, le2};
 ghost use Rattle.pen.specs.Pen.{spot, pushed_all};
 ghost use Rattle.text_parse.specs.Entry.{parsed_of};
@@ -9,6 +10,7 @@ ghost use Rattle.text_parse.specs.Entry.{parsed_of};
 use annex::{Customers, HalfMinutes};
 use fields::Sheet;
 use ledger::{Cell, Ledger, TypeRow};
+use refusals::Refusal;
 use std::fmt::Display;
 use text_items::Entry;
 
@@ -32,6 +34,16 @@ pub fn write_number<N: Display + Drop>(out: &impl Print, n: N) {
 pub fn write_numbers(out: &impl Print, all: &[u64]) {
     for n in all {
         write_number(out, *n);
+    }
+}
+
+// 0, or the number of a refusal.
+pub fn answer_of<T>(outcome: &Result<T, Refusal>) -> u8
+    ensures { result ≡ answer_in outcome.now }
+{
+    match outcome {
+        Ok(_) => 0,
+        Err(refusal) => u8::from(*refusal),
     }
 }
 
@@ -184,12 +196,7 @@ impl<'a> Line<'a> {
 pub fn entry_told(line: &[u8]) -> Option<Entry>
     ensures { IsSome result ↔ ((parsed_of line.now 0).answer ≡ 0) }
 {
-    let parsed = text_parse::parse(line, 0);
-    if parsed.answer == 0 {
-        Some(parsed.entry)
-    } else {
-        None
-    }
+    text_parse::parse(line, 0).ok()
 }
 
 // The bytes that such a line stands for, put at the front of a buffer: how many. None for any other line.

@@ -37,6 +37,7 @@ use cases::Line;
 use codes::LEVELS;
 use fields::Head;
 use ledger::{Cell, Ledger};
+use refusals::Refusal;
 use slot::Slot;
 
 // ---- what a line does or looks at
@@ -235,6 +236,12 @@ impl Bench {
         }
     }
 
+    // The ledger of an outcome, or the same one where it is refused; and its answer.
+    fn keep(&mut self, outcome: Result<Ledger, Refusal>) {
+        self.answer = cases::answer_of(&outcome);
+        self.ledger = outcome.unwrap_or(self.ledger);
+    }
+
     // One message to the desk that the first of the slots make. They are copied out and back, as one call is not lent two fields behind a reference.
     fn serve(&mut self, message: &[u8]) {
         let size = (self.bytes as usize).min(self.map.len());
@@ -247,16 +254,14 @@ impl Bench {
             message,
         );
         self.slots = slots;
-        self.ledger = served.ledger;
-        self.answer = served.answer;
+        self.keep(served);
     }
 
     // One record to the book entry.
     fn take(&mut self, record: &[u8]) {
         let size = (self.bytes as usize).min(self.map.len());
         let taken = self.ledger.take(&mut self.map[..size], record);
-        self.ledger = taken.ledger;
-        self.answer = taken.answer;
+        self.keep(taken);
     }
 
     // Events and short events of the ledger, bytes of the map and slots of the desk.

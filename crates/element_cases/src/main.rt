@@ -32,12 +32,13 @@
 #![tactic(auto)]
 
 use cases::Line;
-use decimal::Shown;
+use decimal::Decimal;
 use element_pieces::Inflow;
-use element_rates::Figure;
 use element_row::Row;
 use element_table::Table;
 use ledger::Ledger;
+use ratio::Fraction;
+use refusals::Refusal;
 
 // ---- what a line does or looks at
 
@@ -145,25 +146,17 @@ fn put_line(out: &mut [u8], line: &[u8], word: Word, v: [u64; 16]) -> usize {
 
 // ---- what is looked at
 
-fn print_exactly(out: &impl Print, figure: Figure) {
-    match figure {
-        Figure::Is(exact) => cases::write_numbers(out, &[0, exact.top, exact.bottom]),
-        Figure::Refused(n) => cases::write_number(out, n),
+fn print_exactly(out: &impl Print, figure: Result<Fraction, Refusal>) {
+    cases::write_number(out, cases::answer_of(&figure));
+    if let Ok(exact) = figure {
+        cases::write_numbers(out, &[exact.top, exact.bottom]);
     }
 }
 
-fn print_shown(out: &impl Print, shown: Shown) {
-    match shown {
-        Shown::Is(decimal) => cases::write_numbers(out, &[0, decimal.whole, decimal.digits]),
-        Shown::Refused(n) => cases::write_number(out, n),
-    }
-}
-
-// 0 for a figure, or the number of a refusal.
-fn answer_in(figure: Figure) -> u8 {
-    match figure {
-        Figure::Is(_) => 0,
-        Figure::Refused(n) => n,
+fn print_shown(out: &impl Print, figure: Result<Decimal, Refusal>) {
+    cases::write_number(out, cases::answer_of(&figure));
+    if let Ok(shown) = figure {
+        cases::write_numbers(out, &[shown.whole, shown.digits]);
     }
 }
 
@@ -171,14 +164,14 @@ fn answer_in(figure: Figure) -> u8 {
 fn print_answers(out: &impl Print, table: Table) {
     let filed = table.begin_file();
     let taken = table.take(b"\x0e\0\x04\0\x01\0\0\0\0\0\x01\0\0\0");
-    cases::write_number(out, filed.answer);
-    cases::write_number(out, taken.answer);
-    cases::write_number(out, answer_in(element_rates::rate_of(table, 15)));
-    cases::write_number(out, answer_in(element_rates::mean_of(table, 15)));
+    cases::write_number(out, cases::answer_of(&filed));
+    cases::write_number(out, cases::answer_of(&taken));
+    cases::write_number(out, cases::answer_of(&element_rates::rate_of(table, 15)));
+    cases::write_number(out, cases::answer_of(&element_rates::mean_of(table, 15)));
 }
 
 fn print_known(out: &impl Print, table: Table, at: u64) {
-    let row = table.rows[(at % 62) as usize];
+    let row = table.rows[at as usize % element_codes::COUNT];
     cases::write_number(out, row.outages);
     cases::write_number(out, row.minutes);
     cases::write_number(out, row.stock);
@@ -194,11 +187,12 @@ fn print_piece(out: &impl Print, table: Table, refused: u64, filled: u64) {
         dead: false,
     };
     let flowed = element_pieces::take_piece(flow, &mut buffer, filled as usize);
-    let read = element_pieces::finish(flowed.flow);
-    cases::write_number(out, flowed.answer);
-    cases::write_number(out, flowed.flow.refused);
-    cases::write_number(out, read.answer);
-    cases::write_number(out, read.refused);
+    cases::write_number(out, cases::answer_of(&flowed));
+    let next = flowed.unwrap_or(flow);
+    let outcome = element_pieces::finish(next);
+    cases::write_number(out, next.refused);
+    cases::write_number(out, cases::answer_of(&outcome));
+    cases::write_number(out, outcome.map_or(next.refused, |read| read.refused));
 }
 
 // ---- what is lent
@@ -211,29 +205,20 @@ struct Bench {
 }
 
 impl Bench {
-    // The beginning of a table.
-    fn begun(period: u32) -> Bench {
-        let filed = Table::begin(period);
-        Bench {
-            table: filed.table,
-            answer: filed.answer,
-        }
-    }
-
     // A table in a file, with nothing in its rows.
     fn lent(period: u64, seen: bool) -> Bench {
         Bench {
             table: Table {
                 period: cases::four(period),
                 seen,
-                rows: [Row::none(); 62],
+                rows: [Row::none(); element_codes::COUNT],
             },
             answer: 0,
         }
     }
 
     fn set_row(&mut self, v: [u64; 16]) {
-        self.table.rows[(v[1] % 62) as usize] = Row {
+        self.table.rows[v[1] as usize % element_codes::COUNT] = Row {
             outages: cases::four(v[2]),
             minutes: v[3],
             stock: cases::byte(v[4]),
@@ -242,24 +227,23 @@ impl Bench {
         self.answer = 0;
     }
 
-    // The beginning of a file.
-    fn begin_file(&mut self) {
-        let filed = self.table.begin_file();
-        self.table = filed.table;
-        self.answer = filed.answer;
+    // The beginning of a table; one whose period is refused has none.
+    fn begun(period: u64) -> Bench {
+        let mut begun = Bench::lent(0, false);
+        begun.keep(Table::begin(cases::four(period)));
+        begun
     }
 
-    // One record of a file.
-    fn take(&mut self, record: &[u8]) {
-        let filed = self.table.take(record);
-        self.table = filed.table;
-        self.answer = filed.answer;
+    // The table of an outcome, or the same one where it is refused; and its answer.
+    fn keep(&mut self, outcome: Result<Table, Refusal>) {
+        self.answer = cases::answer_of(&outcome);
+        self.table = outcome.unwrap_or(self.table);
     }
 
     // One record at the book entry, whose answer stands beside the table as it was.
     fn take_at_book(&mut self, record: &[u8]) {
         let mut map = [0u8; 8192];
-        self.answer = Ledger::empty().take(&mut map, record).answer;
+        self.answer = cases::answer_of(&Ledger::empty().take(&mut map, record));
     }
 
     // What a line does.
@@ -271,11 +255,11 @@ impl Bench {
             Word::Table => *self = Bench::lent(v[1], true),
             Word::Unseen => *self = Bench::lent(v[1], false),
             Word::Row => self.set_row(v),
-            Word::Begin => *self = Bench::begun(cases::four(v[1])),
-            Word::File => self.begin_file(),
+            Word::Begin => *self = Bench::begun(v[1]),
+            Word::File => self.keep(self.table.begin_file()),
             Word::Book => self.take_at_book(bytes),
             Word::Sheet | Word::Outage | Word::Stock | Word::Hex | Word::Nothing => {
-                self.take(bytes);
+                self.keep(self.table.take(bytes));
             }
             _ => {}
         }
@@ -290,7 +274,7 @@ impl Bench {
             Word::Table | Word::Unseen | Word::Row => print_answers(out, table),
             Word::Begin => {
                 cases::write_number(out, self.answer);
-                cases::write_number(out, table.begin_file().answer);
+                cases::write_number(out, cases::answer_of(&table.begin_file()));
             }
             Word::Known => print_known(out, table, v[1]),
             Word::Piece => print_piece(out, table, v[1], v[2]),

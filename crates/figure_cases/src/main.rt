@@ -23,41 +23,50 @@
 // Words are told by their first letters, and numbers are found whatever stands between them. What begins as no line or case does is printed as such.
 #![tactic(auto)]
 
-use book::Read;
 use book_pieces::Feed;
 use codes::Set;
-use decimal::Shown;
-use index::{Answer, Index, Level};
+use decimal::Decimal;
+use index::{Index, Level};
 use ledger::Ledger;
+use ratio::Fraction;
+use refusals::Refusal;
 
 // ---- what is printed
 
-fn print_exact(out: &impl Print, answer: Answer) {
-    match answer {
-        Answer::Is(figure) => cases::write_numbers(out, &[0, figure.top, figure.bottom]),
-        Answer::Refused(n) => cases::write_number(out, n),
+fn print_exact(out: &impl Print, figure: Result<Fraction, Refusal>) {
+    cases::write_number(out, cases::answer_of(&figure));
+    if let Ok(exact) = figure {
+        cases::write_numbers(out, &[exact.top, exact.bottom]);
     }
     cases::write(out, b"\n");
 }
 
-fn print_shown(out: &impl Print, shown: Shown) {
-    match shown {
-        Shown::Is(decimal) => cases::write_numbers(out, &[0, decimal.whole, decimal.digits]),
-        Shown::Refused(n) => cases::write_number(out, n),
+fn print_shown(out: &impl Print, figure: Result<Decimal, Refusal>) {
+    cases::write_number(out, cases::answer_of(&figure));
+    if let Ok(shown) = figure {
+        cases::write_numbers(out, &[shown.whole, shown.digits]);
     }
     cases::write(out, b"\n");
 }
 
 fn print_report(out: &impl Print, ledger: Ledger, refused: u64) {
     let report = report::report_of(ledger, refused);
-    cases::write_number(out, report.answer);
+    cases::write_number(out, cases::answer_of(&report));
     cases::write(out, b"\n");
-    cases::write(out, wire::part(&report.text.bytes, 0, report.text.len));
+    if let Ok(text) = report {
+        cases::write(out, wire::part(&text.bytes, 0, text.len));
+    }
 }
 
-fn print_read(out: &impl Print, read: Read) {
-    cases::write_number(out, read.answer);
-    cases::write_numbers(out, &[read.refused, u64::from(read.broken)]);
+// The end of a feed.
+fn print_end(out: &impl Print, feed: Feed) {
+    let outcome = book_pieces::finish(feed);
+    let (refused, broken) = match &outcome {
+        Ok(read) => (read.refused, read.broken),
+        Err(_) => (feed.refused, false),
+    };
+    cases::write_number(out, cases::answer_of(&outcome));
+    cases::write_numbers(out, &[refused, u64::from(broken)]);
     cases::write(out, b"\n");
 }
 
@@ -138,14 +147,15 @@ impl Bench {
     fn take_piece(&mut self, out: &impl Print, v: [u64; 12]) {
         let mut map = [0u8; 8192];
         let size = (v[4] as usize).min(map.len());
+        let begun = feed_of(self.ledger, v[1], v[2], v[3]);
         let fed = book_pieces::take_piece(
-            feed_of(self.ledger, v[1], v[2], v[3]),
+            begun,
             &mut map[..size],
             &mut self.buffer,
             v[0] as usize,
         );
-        let feed = fed.feed;
-        cases::write_number(out, fed.answer);
+        cases::write_number(out, cases::answer_of(&fed));
+        let feed = fed.unwrap_or(begun);
         cases::write_number(out, feed.ledger.events);
         cases::write_number(out, feed.refused);
         cases::write_number(out, feed.held);
@@ -164,10 +174,7 @@ impl Bench {
             ),
             Some(b'r') => print_report(out, self.ledger, v[0]),
             Some(b'p') => self.take_piece(out, v),
-            Some(b'e') => print_read(
-                out,
-                book_pieces::finish(feed_of(self.ledger, v[0], v[1], v[2])),
-            ),
+            Some(b'e') => print_end(out, feed_of(self.ledger, v[0], v[1], v[2])),
             _ => wrong(out, what),
         }
     }
