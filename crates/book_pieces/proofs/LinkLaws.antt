@@ -20,7 +20,7 @@ use Rattle.ledger.specs.declared.Ledger.{Ledger}
 use Rattle.ledger.specs.Sound.{sound_ledger}
 use Rattle.ledger.specs.Take.{unsound}
 use Rattle.ledger.proofs.TakeLaws.{map_size_kept}
-use Rattle.book.specs.declared.Read.{Read}
+use Rattle.book.specs.Book.{Read}
 use Rattle.book.specs.Book.{BookState, starting, take_record, after_book, read_of}
 use Rattle.book.proofs.RunLaws.{read_through, refused_below}
 use Rattle.book.proofs.SoundLaws.{sound_record, sound_run}

@@ -4,7 +4,7 @@ use Rattle.records.specs.Pieces.{Held, held_on, buffer_on, end_answer, piece_ans
 use Rattle.used_numbers.specs.Marks.{map_size}
 use Rattle.ledger.specs.declared.Ledger.{Ledger}
 use Rattle.ledger.specs.Sound.{sound_ledger}
-use Rattle.book.specs.declared.Read.{Read}
+use Rattle.book.specs.Book.{Read}
 use Rattle.book.specs.Book.{BookState, take_record}
 use Rattle.book_pieces.specs.declared.Feed.{Feed}
 use Rattle.book_pieces.specs.declared.Fed.{Fed}

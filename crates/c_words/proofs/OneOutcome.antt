@@ -1,8 +1,6 @@
 -- No second outcome meets what a public function of this crate promises. Assumes nothing.
 use mathlib.Core.Path.{refl}
 use Rattle.base.proofs.OneOutcome.{OneOutcome, alike}
-use Rattle.c_words.proofs.flag.Kinds as flag-kinds
-use Rattle.c_words.proofs.flag.Reads as flag
 use Rattle.c_words.proofs.answer_by.Kinds as answer-by-kinds
 use Rattle.c_words.proofs.answer_by.Reads as answer-by
 use Rattle.c_words.proofs.lent_ledger.Kinds as lent-ledger-kinds
@@ -11,9 +9,6 @@ use Rattle.c_words.proofs.settle.Kinds as settle-kinds
 use Rattle.c_words.proofs.settle.Reads as settle
 use Rattle.c_words.proofs.put.Kinds as put-kinds
 use Rattle.c_words.proofs.put.Reads as put
-
-pub flag_one : OneOutcome flag-kinds.ps flag-kinds.r flag.Post
-flag_one κs a x y v w p q = (alike p q, refl)
 
 pub answer_by_one : OneOutcome answer-by-kinds.ps answer-by-kinds.r answer-by.Post
 answer_by_one κs a x y v w p q = (alike p q, refl)

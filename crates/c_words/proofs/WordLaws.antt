@@ -2,7 +2,8 @@
 -- Assumes nothing.
 use Prim.Native.Nat.{ℕ, suc, ◌+◌, ◌*◌, ◌<◌, ◌≤◌}
 use mathlib.Core.Path.{◌≡◌, refl, sym, ap, ◌∙◌}
-use mathlib.Core.Bool.{Bool, true, ◌&&◌}
+use mathlib.Core.Bool.{Bool, true, false, ◌&&◌}
+use mir.Val.{bool_byte}
 use mathlib.Core.List.{List, [], ◌∷◌, ◌++◌, append_assoc, append-nil}
 use lib.ListN.{length, get_or, set, take, drop, length-set, drop_of_length-le}
 use lib.Seq.{take_all, take-suc-set, drop-cons}
@@ -14,8 +15,13 @@ use Rattle.base.proofs.TestLaws.{and_left, and_right}
 use Rattle.ledger.specs.declared.Cell.{Cell}
 use Rattle.ledger.specs.declared.TypeRow.{TypeRow}
 use Rattle.ledger.specs.Ledger.{no_cell, no_row}
-use Rattle.c_words.specs.Words.{words_first, row_words, ledger_words, word, words_fit, Fit, cells_of, cell_words, rows_of, cells_in}
+use Rattle.c_words.specs.Words.{words_first, row_words, ledger_words, word, words_fit, Fit, cells_of, cell_words, rows_of, cells_in, flag_of}
 use Rattle.c_words.specs.Inside.{put_cell, put_row, row_at}
+
+-- a flag as a byte is the word of it
+pub flag_byte : (t : Bool) → bool_byte t ≡ flag_of t
+flag_byte true = refl
+flag_byte false = refl
 
 -- ---- reading: the rows read so far and those still in the words are all of them
 

@@ -1,5 +1,7 @@
 -- What the functions between an exported call and the call behind it do.
-use Rattle.std.specs.Prelude.{ℕ, ◌+◌, List, [], ◌∷◌, ◌&&◌, cond, length, get_or, set, replicate, eqb}
+use Rattle.std.specs.Prelude.{ℕ, ◌+◌, List, [], ◌∷◌, ◌&&◌, cond, length, get_or, set, replicate, eqb, Result, Ok, Err}
+use Rattle.refusals.specs.declared.Refusal.{Refusal}
+use Rattle.refusals.specs.Refusals.{number_of}
 use Rattle.codes.specs.Codes.{rows}
 use Rattle.fields.specs.Fields.{no_sheet}
 use Rattle.ledger.specs.declared.Ledger.{Ledger}
@@ -25,6 +27,16 @@ written ws l = cond (eqb (length ws) ledger_words) (words_of l) ws
 
 unfoldable pub settled : ℕ → List ℕ → Taken → List ℕ
 settled header ws t = if_accepted (headed header t.answer) (written ws t.ledger) ws
+
+-- what the call behind answers, as a number and a ledger; where it refuses, its ledger is not written
+abbrev pub handed : Result Ledger Refusal → Taken
+handed (Ok l) = record { answer = 0; ledger = l }
+handed (Err r) = record { answer = number_of r; ledger = no_ledger }
+
+-- the words for an output; where a call refuses, there are none
+abbrev pub words_in : Result (List ℕ) Refusal → List ℕ
+words_in (Ok ws) = ws
+words_in (Err r) = []
 
 -- two words stored, and six: a cell, and the cells of a row
 abbrev pub put_cell : List ℕ → ℕ → Cell → List ℕ

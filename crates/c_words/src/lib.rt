@@ -2,15 +2,17 @@
 // that call answers written back where the answer is 0.
 #![tactic(auto)]
 
-ghost use Rattle.std.specs.Prelude.{◌≡◌, ◌∷◌, [], ◌++◌, ◌+◌, ◌<◌, length, take, drop};
-ghost use Rattle.c_words.specs.Words.{words_first, ledger_words, words_fit, Fit, ledger_in, cells_of, cell_words, rows_of, cells_in, flag_of};
+ghost use Rattle.std.specs.Prelude.{◌≡◌, ◌++◌, ◌+◌, ◌<◌, length, take, drop};
+ghost use Rattle.refusals.specs.Refusals.{answer_in};
+ghost use Rattle.c_words.specs.Words.{words_first, ledger_words, words_fit, Fit, ledger_in, cells_of, cell_words, rows_of, cells_in};
 ghost use Rattle.c_words.specs.Header.{headed, if_accepted};
-ghost use Rattle.c_words.specs.Inside.{no_ledger, lent_ledger, written, settled, put_cell, put_row, cell_at, row_at};
+ghost use Rattle.c_words.specs.Inside.{no_ledger, lent_ledger, written, settled, handed, words_in, put_cell, put_row, cell_at, row_at};
 
 use annex::{Customers, HalfMinutes};
 use codes::{LEVELS, ROWS};
 use fields::Sheet;
-use ledger::{Cell, Ledger, Taken, TypeRow};
+use ledger::{Cell, Ledger, TypeRow};
+use refusals::Refusal;
 
 // How many words stand before the rows, how many a row has, and how many a ledger has.
 const FIRST: usize = 7;
@@ -26,28 +28,6 @@ const HEADER: u64 = VERSION * 4294967296 + WORDS as u64 * 65536 + 72;
 
 // What is answered where an output has another size.
 pub const OTHER_SIZE: u8 = 251;
-
-// An answer number, and two numbers that are written where it is 0.
-#[derive(Clone, Copy)]
-pub struct Pair {
-    pub answer: u8,
-    pub first: u64,
-    pub second: u64,
-}
-
-// 1 or 0.
-pub fn flag(there: bool) -> u64
-    ensures { result ≡ flag_of there }
-{
-    if there { 1 } else { 0 }
-}
-
-// A number of customers as a word.
-fn wide(x: u32) -> u64
-    ensures { result ≡ x }
-{
-    x as u64
-}
 
 // ---- a ledger's words
 
@@ -98,10 +78,8 @@ fn rows_in(words: &[u64]) -> [TypeRow; ROWS]
     ensures { result ≡ rows_of (cells_of (drop words_first words.now)) }
 {
     let mut rows = [TypeRow::none(); ROWS];
-    let mut k: usize = 0;
-    while k < ROWS {
+    for k in 0..ROWS {
         rows[k] = row_at(words, FIRST + ROW * k);
-        k += 1;
     }
     rows
 }
@@ -156,12 +134,8 @@ fn write_rows(words: &mut [u64], rows: [TypeRow; ROWS])
     requires { length words.old ≡ ledger_words }
     ensures { words.new ≡ take words_first words.old ++ cell_words (cells_in rows) }
 {
-    let mut k: usize = 0;
-    while k < ROWS {
-        let row = rows[k];
-        let cells = row.levels;
-        put_row(words, FIRST + ROW * k, cells);
-        k += 1;
+    for k in 0..ROWS {
+        put_row(words, FIRST + ROW * k, rows[k].levels);
     }
 }
 
@@ -172,17 +146,15 @@ fn write(words: &mut [u64], ledger: Ledger)
     if words.len() != WORDS {
         return;
     }
-    let sheet = ledger.sheet;
-    let totals = sheet.totals;
-    let rows = ledger.rows;
-    words[0] = flag(sheet.there);
-    words[1] = sheet.year as u64;
-    words[2] = wide(totals[0]);
-    words[3] = wide(totals[1]);
-    words[4] = wide(totals[2]);
-    words[5] = ledger.events as u64;
-    words[6] = ledger.short as u64;
-    write_rows(words, rows);
+    let totals = ledger.sheet.totals;
+    words[0] = u64::from(ledger.sheet.there);
+    words[1] = u64::from(ledger.sheet.year);
+    words[2] = u64::from(totals[0]);
+    words[3] = u64::from(totals[1]);
+    words[4] = u64::from(totals[2]);
+    words[5] = u64::from(ledger.events);
+    words[6] = u64::from(ledger.short);
+    write_rows(words, ledger.rows);
 }
 
 // ---- under a header
@@ -210,29 +182,37 @@ pub fn lent_ledger(header: u64, words: &[u64]) -> Ledger
     ledger_in(words)
 }
 
-// The answer of the call behind, whose ledger is written where it is 0.
-pub fn settle(header: u64, words: &mut [u64], taken: Taken) -> u32
-    ensures { (result ≡ headed header taken.answer) × (words.new ≡ settled header words.old taken) }
+// The answer of the call behind, whose ledger is written where there is one.
+#[tactic(auto, using(refusals::proofs::NumberLaws::number_above_0), unfolding(crate::specs::Inside::settled))]
+pub fn settle(header: u64, words: &mut [u64], taken: Result<Ledger, Refusal>) -> u32
+    ensures { (result ≡ headed header (answer_in taken)) × (words.new ≡ settled header words.old (handed taken)) }
 {
-    let number = answer_by(header, taken.answer);
-    if number != 0 {
-        return number;
+    match taken {
+        Ok(ledger) => {
+            let number = answer_by(header, 0);
+            if number == 0 {
+                write(words, ledger);
+            }
+            number
+        }
+        Err(refusal) => answer_by(header, u8::from(refusal)),
     }
-    let ledger = taken.ledger;
-    write(words, ledger);
-    number
 }
 
-// The same of two numbers and an output of two words.
-pub fn put(header: u64, out: &mut [u64], pair: Pair) -> u32
+// The same of two words and an output that has room for them.
+pub fn put(header: u64, out: &mut [u64], words: Result<[u64; 2], Refusal>) -> u32
     requires { length out.old ≡ 2 }
-    ensures { (result ≡ headed header pair.answer) × (out.new ≡ if_accepted (headed header pair.answer) (pair.first ∷ pair.second ∷ []) out.old) }
+    ensures { (result ≡ headed header (answer_in words)) × (out.new ≡ if_accepted (headed header (answer_in words)) (words_in words) out.old) }
 {
-    let answer = answer_by(header, pair.answer);
-    if answer != 0 {
-        return answer;
+    match words {
+        Ok(pair) => {
+            let answer = answer_by(header, 0);
+            if answer == 0 {
+                out[0] = pair[0];
+                out[1] = pair[1];
+            }
+            answer
+        }
+        Err(refusal) => answer_by(header, u8::from(refusal)),
     }
-    out[0] = pair.first;
-    out[1] = pair.second;
-    answer
 }

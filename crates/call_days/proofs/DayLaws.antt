@@ -15,7 +15,7 @@ use Rattle.ledger.specs.Ledger.{empty_ledger}
 use Rattle.ledger.specs.Take.{unsound, answer_of, map_after}
 use Rattle.ledger.proofs.CellLaws.{empty_shaped}
 use Rattle.ledger.proofs.TakeLaws.{answer_1}
-use Rattle.book.specs.declared.Read.{Read}
+use Rattle.book.specs.Book.{Read}
 use Rattle.book.specs.Book.{BookState, starting, take_record, take_all, read_of, map_read}
 use Rattle.book.proofs.RunLaws.{read_nothing, read_through}
 use Rattle.slot.specs.declared.Slot.{Slot}

@@ -21,7 +21,7 @@ use Rattle.codes.specs.declared.Set.{Set}
 use Rattle.ledger.specs.declared.Ledger.{Ledger}
 use Rattle.ledger.specs.Ledger.{empty_ledger}
 use Rattle.ledger.specs.Take.{Taken, answer_of, map_after, taken_of}
-use Rattle.book.specs.declared.Read.{Read}
+use Rattle.book.specs.Book.{Read}
 use Rattle.book.specs.Book.{read_of, map_read}
 use Rattle.index.specs.declared.Index.{Index}
 use Rattle.index.specs.declared.Level.{Level}

@@ -31,7 +31,7 @@ use Rattle.ledger.proofs.CellLaws.{added_shaped, empty_shaped}
 use Rattle.ledger.proofs.LedgerLaws.{sound_short}
 use Rattle.ledger.proofs.TakeLaws.{accepted_sound, accepted_verdict, accepted_adds, refused_hands_back}
 use Rattle.ledger.proofs.SoundLaws.{verdict_fits}
-use Rattle.book.specs.declared.Read.{Read}
+use Rattle.book.specs.Book.{Read}
 use Rattle.book.specs.Book.{BookState, starting, take_record, take_all, read_of}
 use Rattle.book.proofs.RunLaws.{read_nothing, read_through}
 use Rattle.slot.specs.declared.Slot.{Slot}

@@ -1,3 +1,4 @@
+pub mod ResultLaws
 pub mod NoneLaws
 pub mod CallLaws
 pub mod SetLaws

@@ -12,7 +12,7 @@ use Rattle.record.specs.Rules.{unframed}
 use Rattle.ledger.specs.declared.Ledger.{Ledger}
 use Rattle.ledger.specs.Take.{unsound, answer_of, map_after}
 use Rattle.ledger.proofs.TakeLaws.{answer_1, refused_hands_back}
-use Rattle.book.specs.declared.Read.{Read}
+use Rattle.book.specs.Book.{Read}
 use Rattle.book.specs.Book.{read_of, map_read}
 use Rattle.book.proofs.RunLaws.{read_nothing, read_through}
 use Rattle.refusals.specs.declared.Refusal.TheVariants as refusal

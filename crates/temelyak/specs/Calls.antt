@@ -8,7 +8,7 @@ use Rattle.decimal.specs.Decimal.{decimally}
 use Rattle.ledger.specs.declared.Ledger.{Ledger}
 use Rattle.ledger.specs.Ledger.{empty_ledger}
 use Rattle.ledger.specs.Take.{answer_of, ledger_after, map_after}
-use Rattle.book.specs.declared.Read.{Read}
+use Rattle.book.specs.Book.{Read}
 use Rattle.book.specs.Book.{read_of, map_read}
 use Rattle.index.specs.Index.{index_of, exactly, shown_index}
 use Rattle.slot.specs.declared.Slot.{Slot}

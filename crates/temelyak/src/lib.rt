@@ -4,13 +4,8 @@
 
 ghost use Rattle.std.specs.Prelude.{◌≡◌};
 ghost use Rattle.temelyak.specs.Calls.{empty_answer, empty_words, take_answer, take_words, take_map, book_answer, book_words, book_map, book_out, serve_answer, serve_words, serve_map, serve_desk, index_answer, index_out, decimal_answer, decimal_out, built_of};
-ghost use Rattle.temelyak.specs.Inside.{handed_back};
-ghost use Rattle.c_words.specs.Header.{headed};
-ghost use Rattle.c_words.specs.Inside.{settled};
 
-use c_words::Pair;
-use desk_rules::Served;
-use ledger::{Ledger, Taken};
+use ledger::Ledger;
 use slot::Slot;
 
 // Writes an empty ledger.
@@ -20,14 +15,7 @@ pub fn temelyak_empty(header: u64, ledger: &mut [u64]) -> u32
     if ledger.len() != c_words::WORDS {
         return c_words::answer_by(header, c_words::OTHER_SIZE);
     }
-    c_words::settle(
-        header,
-        ledger,
-        Taken {
-            answer: 0,
-            ledger: Ledger::empty(),
-        },
-    )
+    c_words::settle(header, ledger, Ok(Ledger::empty()))
 }
 
 // Takes one record of a book.
@@ -51,40 +39,13 @@ pub fn temelyak_take_book(
     if out.len() != 2 {
         return c_words::answer_by(header, c_words::OTHER_SIZE);
     }
-    let read = book::take_book(c_words::lent_ledger(header, &ledger[..]), map, bytes);
-    let next = read.ledger;
-    c_words::settle(
-        header,
-        ledger,
-        Taken {
-            answer: read.answer,
-            ledger: next,
-        },
-    );
-    c_words::put(
-        header,
-        out,
-        Pair {
-            answer: read.answer,
-            first: read.refused,
-            second: c_words::flag(read.broken),
-        },
-    )
-}
-
-// The answer of the desk, whose ledger is written where it is 0.
-fn settle_served(header: u64, ledger: &mut [u64], served: Served) -> u32
-    ensures { (result ≡ headed header served.answer) × (ledger.new ≡ settled header ledger.old (handed_back served)) }
-{
-    let next = served.ledger;
-    c_words::settle(
-        header,
-        ledger,
-        Taken {
-            answer: served.answer,
-            ledger: next,
-        },
-    )
+    match book::take_book(c_words::lent_ledger(header, &ledger[..]), map, bytes) {
+        Ok(read) => {
+            c_words::settle(header, ledger, Ok(read.ledger));
+            c_words::put(header, out, Ok([read.refused, u64::from(read.broken)]))
+        }
+        Err(refusal) => c_words::answer_by(header, u8::from(refusal)),
+    }
 }
 
 // Serves one message at a desk.
@@ -99,7 +60,7 @@ pub fn temelyak_serve(
 {
     let lent = c_words::lent_ledger(header, ledger);
     let served = desk::serve(lent, map, desk, bytes);
-    settle_served(header, ledger, served)
+    c_words::settle(header, ledger, served)
 }
 
 // An index as an exact fraction.
@@ -162,20 +123,12 @@ pub fn temelyak_decimal(
 pub fn temelyak_built(which: u32) -> u64
     ensures { result ≡ built_of which }
 {
-    if which == 0 {
-        return c_words::VERSION;
+    match which {
+        0 => c_words::VERSION,
+        1 => c_words::WORDS as u64,
+        2 => 72,
+        3 => 8192,
+        4 => 32,
+        _ => 0,
     }
-    if which == 1 {
-        return c_words::WORDS as u64;
-    }
-    if which == 2 {
-        return 72;
-    }
-    if which == 3 {
-        return 8192;
-    }
-    if which == 4 {
-        return 32;
-    }
-    0
 }

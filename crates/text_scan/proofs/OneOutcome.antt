@@ -1,6 +1,7 @@
 -- No second outcome meets what a public function of this crate promises. Assumes nothing.
 use mathlib.Core.Path.{refl}
 use Rattle.base.proofs.OneOutcome.{OneOutcome, alike}
+use Rattle.text_scan.proofs.OutcomeLaws.{same_gap, same_found}
 use Rattle.text_scan.proofs.is_gap.Kinds as is-gap-kinds
 use Rattle.text_scan.proofs.is_gap.Reads as is-gap
 use Rattle.text_scan.proofs.is_digit.Kinds as is-digit-kinds
@@ -42,7 +43,7 @@ pub other_at_one : OneOutcome other-at-kinds.ps other-at-kinds.r other_at.Post
 other_at_one κs a x y v w p q = (alike p q, refl)
 
 pub gap_said_one : OneOutcome gap-said-kinds.ps gap-said-kinds.r gap-said.Post
-gap_said_one κs a x y v w p q = (alike p q, refl)
+gap_said_one κs a x y v w p q = (same_gap x y (alike p q), refl)
 
 pub item_found_one : OneOutcome item-found-kinds.ps item-found-kinds.r item-found.Post
-item_found_one κs a x y v w p q = (alike p q, refl)
+item_found_one κs a x y v w p q = (same_found x y (alike p q), refl)

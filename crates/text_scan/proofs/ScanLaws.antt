@@ -8,13 +8,15 @@ use lib.ListN.{length, take, drop, get_or, length-drop, drop_of_length-le, get_o
 use lib.Seq.{take_all, drop-cons}
 use native.Mathlib.Omega.{arith}
 use native.Mathlib.Numerals.{add-one}
-use borrow.Author.Tests.{ltb-true, ltb-false, le-ltb, not-false}
+use borrow.Author.Tests.{ltb-true, ltb-false, lt-ltb, le-ltb, not-false}
 use Rattle.base.proofs.TestLaws.{Tested, holds, fails, test, and_left, and_right}
 use Rattle.std.specs.Prelude.{Option, Some, None, unwrap_or}
 use Rattle.std.specs.List.{position_or_len}
+use Rattle.std.proofs.lemmas.Option.{same_Some, none-some}
 use Rattle.wire.specs.Numbers.{byte_at}
 use Rattle.wire.specs.Book.{part_of}
-use Rattle.text_scan.specs.declared.Found.{Found}
+use Rattle.text_scan.specs.Found.{Found}
+use Rattle.text_scan.specs.Outcomes.{place_within}
 use Rattle.text_scan.specs.Scan.{is_gap, gaps_in, ends_here, said_at, separates, separator_of, first_of, other_at, separator_place, second_of, gap_said, is_digit, grown, digits_from, digits_of, number_found, two_stand, date_stands, date_minute, date_found, time_found, hex_value, hex_found, item_found, read, expected}
 
 -- the part from an offset to the end is what is left there
@@ -73,13 +75,31 @@ first_short p (b ∷ s) = go (first_short p s) (test (p b))
     go h (holds e) = rw e (omega arith)
     go h (fails e) = rw e (omega arith)
 
--- what the library's `position` tells of a line, with the length where it tells none
-pub first_told : (p : ℕ → Bool) (s : List ℕ) (told : Option ℕ) → told ≡ cond (ltb (position_or_len p s) (length s)) (Some (position_or_len p s)) None → unwrap_or told (length s) ≡ first_of p s
-first_told p s told e = ap (λ (o : Option ℕ). unwrap_or o (length s)) e ∙ go (test (ltb (position_or_len p s) (length s)))
+-- what the library's `position` tells of a line, and the length where it tells none
+pub first_told : (p : ℕ → Bool) (s : List ℕ) (told : Option ℕ) → told ≡ place_within (position_or_len p s) s → told ≡ place_within (first_of p s) s
+first_told p s told e = e ∙ ap (λ (n : ℕ). place_within n s) (first_is p s)
+
+pub first_or : (p : ℕ → Bool) (s : List ℕ) (told : Option ℕ) → told ≡ place_within (first_of p s) s → unwrap_or told (length s) ≡ first_of p s
+first_or p s told e = ap (λ (o : Option ℕ). unwrap_or o (length s)) e ∙ go (test (ltb (first_of p s) (length s)))
   where
-    go : Tested (ltb (position_or_len p s) (length s)) → unwrap_or (cond (ltb (position_or_len p s) (length s)) (Some (position_or_len p s)) None) (length s) ≡ first_of p s
-    go (holds h) = rw h (first_is p s)
-    go (fails h) = rw h (omega (arith, ltb-false (position_or_len p s) (length s) h, first_short p s, first_is p s))
+    go : Tested (ltb (first_of p s) (length s)) → unwrap_or (place_within (first_of p s) s) (length s) ≡ first_of p s
+    go (holds h) = rw h refl
+    go (fails h) = rw h (omega (arith, ltb-false (first_of p s) (length s) h, first_short p s))
+
+-- a place that is told is within the line, and one that is not is its length
+pub place_there : (n : ℕ) (s : List ℕ) (k : ℕ) → place_within n s ≡ Some k → (ltb n (length s) ≡ true) × (k ≡ n)
+place_there n s k e = go (test (ltb n (length s)))
+  where
+    go : Tested (ltb n (length s)) → (ltb n (length s) ≡ true) × (k ≡ n)
+    go (holds h) = let there : place_within n s ≡ Some n = rw h refl in (h, sym (same_Some n k (sym there ∙ e)))
+    go (fails h) = let none : place_within n s ≡ None = rw h refl in absurd (none-some k (sym none ∙ e))
+
+pub place_none : (n : ℕ) (s : List ℕ) → place_within n s ≡ None → ltb n (length s) ≡ false
+place_none n s e = go (test (ltb n (length s)))
+  where
+    go : Tested (ltb n (length s)) → ltb n (length s) ≡ false
+    go (holds h) = let there : place_within n s ≡ Some n = rw h refl in absurd (none-some n (sym e ∙ there))
+    go (fails h) = h
 
 -- a line's separator: at a comment, at one of the three, past any other byte, and at the line's end
 module _ (s : List ℕ) (i : ℕ) where
@@ -124,6 +144,29 @@ module _ (gap : List ℕ) (sep : ℕ) (due : Bool) where
         pub gap_right : ltb (second_of gap sep) (length gap) ≡ false → gap_said gap sep due ≡ said_at 0 0
         unfolding gap_said
         gap_right t = rw (gap_said, same, item, one, t)
+
+-- the second separator, by what is told of the part behind the first
+module _ (gap : List ℕ) (sep : ℕ) (first : ℕ) (is : first ≡ separator_place gap sep) (rest : List ℕ) (behind : rest ≡ part_of gap (first + 1) (length gap)) where
+  rest_is : rest ≡ drop (separator_place gap sep + 1) gap
+  rest_is = behind ∙ part_is_rest gap (first + 1) ∙ ap (λ (n : ℕ). drop (n + 1) gap) is
+
+  rest_long : length rest ≡ length gap - (separator_place gap sep + 1)
+  rest_long = ap length rest_is ∙ length-drop (separator_place gap sep + 1) gap
+
+  second_is : second_of gap sep ≡ separator_place gap sep + 1 + separator_place rest sep
+  second_is = ap (λ (s : List ℕ). separator_place gap sep + 1 + separator_place s sep) (sym rest_is)
+
+  pub second_there : (more : ℕ) → place_within (separator_place rest sep) rest ≡ Some more → (ltb (second_of gap sep) (length gap) ≡ true) × (first + 1 + more ≡ second_of gap sep)
+  second_there more e =
+      let there = place_there (separator_place rest sep) rest more e in
+      let within = ltb-true (separator_place rest sep) (length rest) there.0 in
+      let same = there.1 in
+      (lt-ltb (second_of gap sep) (length gap) (omega (arith, within, rest_long, second_is)), omega (arith, is, same, second_is))
+
+  pub second_none : place_within (separator_place rest sep) rest ≡ None → ltb (second_of gap sep) (length gap) ≡ false
+  second_none e =
+      let past = ltb-false (separator_place rest sep) (length rest) (place_none (separator_place rest sep) rest e) in
+      le-ltb (second_of gap sep) (length gap) (omega (arith, past, rest_long, second_is))
 
 -- two digits are looked for at the first 16 places alone
 pub near_stand : (s : List ℕ) (at : ℕ) → two_stand s at ≡ true → at < 16

@@ -3,7 +3,7 @@ use Rattle.std.specs.Prelude.{ℕ, suc, ◌+◌, ◌-◌, ◌*◌, List, [], ◌
 use Rattle.wire.specs.Numbers.{byte_at}
 use Rattle.calendar.specs.Calendar.{Minute}
 use Rattle.calendar.specs.Calendar.{minute_of}
-use Rattle.text_scan.specs.declared.Found.{Found}
+use Rattle.text_scan.specs.Found.{Found}
 use Rattle.text_scan.specs.declared.Digits.{Digits}
 
 -- an item read, and one that is not there: what was expected

@@ -1,49 +1,53 @@
 // The items of a line of text: gaps between them, numbers, times and hexadecimal digits. Each function reads the front of what is left of the line.
-#![tactic(auto)]
+#![tactic(auto, unfolding(crate::specs::Scan::is_gap, crate::specs::Scan::separates, crate::specs::Scan::is_other, crate::specs::Scan::is_digit, crate::specs::Scan::grown, crate::specs::Scan::digits_of, crate::specs::Scan::two_stand, crate::specs::Scan::date_stands, crate::specs::Scan::number_found, crate::specs::Scan::date_found, crate::specs::Scan::time_found, crate::specs::Scan::hex_value, crate::specs::Scan::hex_found, crate::specs::Scan::item_found))]
 
 ghost use Rattle.std.specs.Prelude.{◌≡◌, ◌-◌};
-ghost use Rattle.text_scan.specs.Scan.{is_gap, gaps_in, ends_here, parted_here, said_at, separates, separator_of, is_other, other_at, separator_place, gap_said, digits_of, number_found, date_found, time_found, hex_found, item_found};
+ghost use Rattle.text_items.specs.Sorts.{item_number};
+ghost use Rattle.text_scan.specs.Outcomes.{expected_number, wrong_at, found_in, gap_in, place_within, below_16};
+ghost use Rattle.text_scan.specs.Scan.{is_gap, gaps_in, ends_here, parted_here, separates, separator_of, is_other, other_at, separator_place, gap_said, digits_of, number_found, date_found, time_found, hex_found, item_found};
 
 use calendar::Date;
+use text_items::Item;
 
-// What a line was expected to have where it does not go on; 0 where an item was read, and `END` where the line has ended.
-pub const WORD: u8 = 1;
+// What a line was expected to have where it does not go on.
+#[derive(Clone, Copy, Debug, PartialEq, Eq)]
+pub enum Expected {
+    Word,
+    Number,
+    AtMost255,
+    AtMost65535,
+    AtMost4294967295,
+    Time,
+    SheetBefore,
+    DayOfYear,
+    TwoDigits,
+    Gap,
+    NoMore,
+    More,
+    OtherSeparator,
+    Separator,
+    EmptyCell,
+}
 
-pub const NUMBER: u8 = 2;
+// What was expected instead, and how many bytes on.
+#[derive(Clone, Copy, Debug, PartialEq, Eq)]
+pub struct Wrong {
+    pub expected: Expected,
+    pub at: usize,
+}
 
-pub const AT_MOST_255: u8 = 3;
+impl Expected {
+    // What was expected, so many bytes on.
+    pub fn at(self, at: usize) -> Wrong
+        ensures { result ≡ wrong_at self at }
+    {
+        Wrong { expected: self, at }
+    }
+}
 
-pub const AT_MOST_65535: u8 = 4;
-
-pub const AT_MOST_4294967295: u8 = 5;
-
-pub const TIME: u8 = 6;
-
-pub const SHEET_BEFORE: u8 = 7;
-
-pub const DAY_OF_YEAR: u8 = 8;
-
-pub const TWO_DIGITS: u8 = 9;
-
-pub const GAP: u8 = 10;
-
-pub const NO_MORE: u8 = 11;
-
-pub const MORE: u8 = 12;
-
-pub const OTHER_SEPARATOR: u8 = 13;
-
-pub const SEPARATOR: u8 = 14;
-
-pub const EMPTY_CELL: u8 = 15;
-
-pub const END: u8 = 255;
-
-// An answer, the number of the item, and how many bytes it has; where the answer is not 0 the number is 0, and the bytes are those before the place that it
-// speaks of.
-#[derive(Clone, Copy)]
+// An item that was read: its number, and how many bytes it has.
+#[derive(Clone, Copy, Debug, PartialEq, Eq)]
 pub struct Found {
-    pub answer: u8,
     pub value: u32,
     pub used: usize,
 }
@@ -56,7 +60,6 @@ pub struct Digits {
 }
 
 // Whether a byte parts items: a space, a tab, a comma, a semicolon, a bar or a carriage return.
-#[tactic(auto, unfolding(crate::specs::Scan::is_gap))]
 pub fn is_gap(b: u8) -> bool
     ensures { result ≡ is_gap b }
 {
@@ -87,7 +90,6 @@ pub fn parted_here(s: &[u8]) -> bool
 // ---- lines of cells
 
 // Whether a byte makes a line one of cells: a tab, a comma or a semicolon.
-#[tactic(auto, unfolding(crate::specs::Scan::separates))]
 fn separates(b: u8) -> bool
     ensures { result ≡ Rattle.text_scan.specs.Scan.separates b }
 {
@@ -110,67 +112,49 @@ pub fn separator_of(line: &[u8]) -> u8
 }
 
 // Whether a byte is a separator, and not the line's.
-#[tactic(auto, unfolding(crate::specs::Scan::is_other))]
 fn is_other(b: u8, sep: u8) -> bool
     ensures { result ≡ is_other b sep }
 {
     separates(b) && b != sep
 }
 
-// Where in a gap a separator stands that is not the line's; the gap's length where none does.
-pub fn other_at(gap: &[u8], sep: u8) -> usize
-    ensures { result ≡ other_at gap.now sep }
+// Where in a gap a separator stands that is not the line's.
+pub fn other_at(gap: &[u8], sep: u8) -> Option<usize>
+    ensures { result ≡ place_within (other_at gap.now sep) gap.now }
 {
-    gap.iter()
-        .position(|b| is_other(*b, sep))
-        .unwrap_or(gap.len())
+    gap.iter().position(|b| is_other(*b, sep))
 }
 
-// Where in a gap a byte first stands; the gap's length where it does not.
-fn place_of(gap: &[u8], sep: u8) -> usize
-    ensures { result ≡ separator_place gap.now sep }
+// Where in a gap a byte first stands.
+fn place_of(gap: &[u8], sep: u8) -> Option<usize>
+    ensures { result ≡ place_within (separator_place gap.now sep) gap.now }
 {
-    gap.iter().position(|b| *b == sep).unwrap_or(gap.len())
+    gap.iter().position(|b| *b == sep)
 }
 
-// What is said of a place so many bytes on.
-fn said(answer: u8, used: usize) -> Found
-    ensures { result ≡ said_at answer used }
+// Whether a gap of a line of cells is right, or what is wrong with it. `due` says whether an item follows it: then it has exactly one separator.
+pub fn gap_said(gap: &[u8], sep: u8, due: bool) -> Result<(), Wrong>
+    ensures { gap_in result ≡ gap_said gap.now sep due }
 {
-    Found {
-        answer,
-        value: 0,
-        used,
-    }
-}
-
-// A gap of a line of cells: 0, or what is wrong with it, and where. `due` says whether an item follows it: then it has exactly one separator.
-pub fn gap_said(gap: &[u8], sep: u8, due: bool) -> Found
-    ensures { result ≡ gap_said gap.now sep due }
-{
-    let other = other_at(gap, sep);
-    if other < gap.len() {
-        return said(OTHER_SEPARATOR, other);
+    if let Some(other) = other_at(gap, sep) {
+        return Err(Expected::OtherSeparator.at(other));
     }
     if !due {
-        return said(0, 0);
+        return Ok(());
     }
-    let first = place_of(gap, sep);
-    if gap.len() <= first {
-        return said(SEPARATOR, gap.len());
-    }
+    let Some(first) = place_of(gap, sep) else {
+        return Err(Expected::Separator.at(gap.len()));
+    };
     let past = first + 1;
-    let second = past + place_of(wire::part(gap, past, gap.len()), sep);
-    if second < gap.len() {
-        return said(EMPTY_CELL, second);
+    if let Some(more) = place_of(wire::part(gap, past, gap.len()), sep) {
+        return Err(Expected::EmptyCell.at(past + more));
     }
-    said(0, 0)
+    Ok(())
 }
 
 // ---- numbers
 
 // Whether a byte is a decimal digit.
-#[tactic(auto, unfolding(crate::specs::Scan::is_digit))]
 pub fn is_digit(b: u8) -> bool
     ensures { result ≡ Rattle.text_scan.specs.Scan.is_digit b }
 {
@@ -178,7 +162,6 @@ pub fn is_digit(b: u8) -> bool
 }
 
 // A number with one digit more; past 4,294,967,295 it stays.
-#[tactic(auto, unfolding(crate::specs::Scan::grown))]
 fn grown(value: u64, b: u8) -> u64
     ensures { result ≡ Rattle.text_scan.specs.Scan.grown value b }
 {
@@ -189,7 +172,6 @@ fn grown(value: u64, b: u8) -> u64
 }
 
 // The decimal digits in front.
-#[tactic(auto, unfolding(crate::specs::Scan::digits_of))]
 fn digits_of(s: &[u8]) -> Digits
     ensures { result ≡ digits_of s.now }
 {
@@ -204,34 +186,24 @@ fn digits_of(s: &[u8]) -> Digits
     run
 }
 
-// A number of at most so much; `none` is answered where no digit stands, and `large` where it is larger.
-fn number_found(s: &[u8], most: u32, none: u8, large: u8) -> Found
-    ensures { result ≡ number_found s.now most none large }
+// A number of at most so much; `none` is expected where no digit stands, and `large` where it is larger.
+fn number_found(s: &[u8], most: u32, none: Expected, large: Expected) -> Result<Found, Wrong>
+    ensures { found_in result ≡ number_found s.now most (expected_number none) (expected_number large) }
 {
     let run = digits_of(s);
     if run.used == 0 {
-        return Found {
-            answer: none,
-            value: 0,
-            used: 0,
-        };
+        return Err(none.at(0));
     }
     if (most as u64) < run.value {
-        return Found {
-            answer: large,
-            value: 0,
-            used: 0,
-        };
+        return Err(large.at(0));
     }
-    Found {
-        answer: 0,
+    Ok(Found {
         value: run.value as u32,
         used: run.used,
-    }
+    })
 }
 
 // Whether two decimal digits stand at a place.
-#[tactic(auto, unfolding(crate::specs::Scan::two_stand))]
 fn two_stand(s: &[u8], at: usize) -> bool
     ensures { result ≡ Rattle.text_scan.specs.Scan.two_stand s.now at }
 {
@@ -256,7 +228,6 @@ fn two_at(s: &[u8], at: usize) -> u32
 }
 
 // Whether a date stands in front, as MM-DD hh:mm.
-#[tactic(auto, unfolding(crate::specs::Scan::date_stands))]
 fn date_stands(s: &[u8]) -> bool
     ensures { result ≡ Rattle.text_scan.specs.Scan.date_stands s.now }
 {
@@ -270,111 +241,74 @@ fn date_stands(s: &[u8]) -> bool
 }
 
 // A time as MM-DD hh:mm within a year; the year is 0 where none is known.
-fn date_found(s: &[u8], year: u16) -> Found
-    ensures { result ≡ date_found s.now year }
+fn date_found(s: &[u8], year: u16) -> Result<Found, Wrong>
+    ensures { found_in result ≡ date_found s.now year }
 {
     if !date_stands(s) {
-        return Found {
-            answer: TIME,
-            value: 0,
-            used: 0,
-        };
+        return Err(Expected::Time.at(0));
     }
     if year == 0 {
-        return Found {
-            answer: SHEET_BEFORE,
-            value: 0,
-            used: 0,
-        };
+        return Err(Expected::SheetBefore.at(0));
     }
-    let minute = calendar::minute_of(
-        year,
-        Date {
-            month: two_at(s, 0),
-            day: two_at(s, 3),
-            hour: two_at(s, 6),
-            minute: two_at(s, 9),
-        },
-    );
-    if !minute.there {
-        return Found {
-            answer: DAY_OF_YEAR,
-            value: 0,
-            used: 0,
-        };
-    }
-    Found {
-        answer: 0,
-        value: minute.value,
-        used: 11,
-    }
+    let date = Date {
+        month: two_at(s, 0),
+        day: two_at(s, 3),
+        hour: two_at(s, 6),
+        minute: two_at(s, 9),
+    };
+    let Some(value) = calendar::minute_of(year, date) else {
+        return Err(Expected::DayOfYear.at(0));
+    };
+    Ok(Found { value, used: 11 })
 }
 
 // A time: minutes, or a date where a dash stands after two bytes.
-fn time_found(s: &[u8], year: u16) -> Found
-    ensures { result ≡ time_found s.now year }
+fn time_found(s: &[u8], year: u16) -> Result<Found, Wrong>
+    ensures { found_in result ≡ time_found s.now year }
 {
-    if wire::byte_at(s, 2) == 45 {
+    if wire::byte_at(s, 2) == b'-' {
         return date_found(s, year);
     }
-    number_found(s, 4294967295, TIME, AT_MOST_4294967295)
+    number_found(s, u32::MAX, Expected::Time, Expected::AtMost4294967295)
 }
 
-// The number of a hexadecimal digit, of either case; 16 for any other byte.
-#[tactic(auto, unfolding(crate::specs::Scan::hex_value))]
-fn hex_value(b: u8) -> u8
-    ensures { result ≡ Rattle.text_scan.specs.Scan.hex_value b }
+// The number of a hexadecimal digit, of either case.
+fn hex_value(b: u8) -> Option<u8>
+    ensures { result ≡ below_16 (Rattle.text_scan.specs.Scan.hex_value b) }
 {
     match b {
-        b'0'..=b'9' => b - b'0',
-        b'A'..=b'F' => b - b'A' + 10,
-        b'a'..=b'f' => b - b'a' + 10,
-        _ => 16,
+        b'0'..=b'9' => Some(b - b'0'),
+        b'A'..=b'F' => Some(b - b'A' + 10),
+        b'a'..=b'f' => Some(b - b'a' + 10),
+        _ => None,
     }
 }
 
 // A byte in two hexadecimal digits.
-fn hex_found(s: &[u8]) -> Found
-    ensures { result ≡ hex_found s.now }
+fn hex_found(s: &[u8]) -> Result<Found, Wrong>
+    ensures { found_in result ≡ hex_found s.now }
 {
-    let high = hex_value(wire::byte_at(s, 0));
-    let low = hex_value(wire::byte_at(s, 1));
-    if 15 < high {
-        return Found {
-            answer: TWO_DIGITS,
-            value: 0,
-            used: 0,
-        };
-    }
-    if 15 < low {
-        return Found {
-            answer: TWO_DIGITS,
-            value: 0,
-            used: 0,
-        };
-    }
-    Found {
-        answer: 0,
+    let (Some(high), Some(low)) = (
+        hex_value(wire::byte_at(s, 0)),
+        hex_value(wire::byte_at(s, 1)),
+    ) else {
+        return Err(Expected::TwoDigits.at(0));
+    };
+    Ok(Found {
         value: high as u32 * 16 + low as u32,
         used: 2,
-    }
+    })
 }
 
 // An item of a sort.
-pub fn item_found(s: &[u8], item: u8, year: u16) -> Found
-    ensures { result ≡ item_found s.now item year }
+pub fn item_found(s: &[u8], item: Item, year: u16) -> Result<Found, Wrong>
+    ensures { found_in result ≡ item_found s.now (item_number item) year }
 {
-    if item == text_items::BYTE {
-        return number_found(s, 255, NUMBER, AT_MOST_255);
+    match item {
+        Item::Byte => number_found(s, 255, Expected::Number, Expected::AtMost255),
+        Item::Pair => number_found(s, 65535, Expected::Number, Expected::AtMost65535),
+        Item::Count => number_found(s, u32::MAX, Expected::Number, Expected::AtMost4294967295),
+        Item::Time => time_found(s, year),
+        Item::Digits => hex_found(s),
     }
-    if item == text_items::PAIR {
-        return number_found(s, 65535, NUMBER, AT_MOST_65535);
-    }
-    if item == text_items::TIME {
-        return time_found(s, year);
-    }
-    if item == text_items::DIGITS {
-        return hex_found(s);
-    }
-    number_found(s, 4294967295, NUMBER, AT_MOST_4294967295)
 }

@@ -1,6 +1,8 @@
 // The year report: one book on standard input, the report on standard output.
 #![tactic(auto)]
 
+use text::Text;
+
 fn main(rt: HostRuntime) {
     let book = input::read_book(&mut rt.stdin());
     if book.failed {
@@ -8,10 +10,8 @@ fn main(rt: HostRuntime) {
         return;
     }
     let read = book.read;
-    let report = report::report_of(read.ledger, read.refused);
-    let text = report.text;
-    let bytes = text.bytes;
-    if rt.write_all(wire::part(&bytes, 0, text.len)).is_err() {
+    let text = report::report_of(read.ledger, read.refused).unwrap_or(Text::empty());
+    if rt.write_all(wire::part(&text.bytes, 0, text.len)).is_err() {
         let _ = eprintln!(rt; "year_report: the report cannot be written");
     }
 }

@@ -7,7 +7,7 @@ use native.Mathlib.Omega.{arith}
 use borrow.Author.Tests.{eq-eqb, ne_eqb}
 use Rattle.c_words.specs.Words.{ledger_words, words_of, words_before, cell_words, cells_in}
 use Rattle.c_words.specs.Inside.{written}
-use Rattle.c_words.proofs.WordLaws.{seven_set}
+use Rattle.c_words.proofs.WordLaws.{seven_set, flag_byte}
 use Rattle.c_words.proofs.write.Goals as goal
 
 pub returns-then-words-ne-WORDS : goal.returns-then-words-ne-WORDS
@@ -42,11 +42,7 @@ returns c =
     let l = a.ledger in
     let rest = cell_words (cells_in l.rows) in
     let size = c.if-words-ne-WORDS.false in
-    let there = c.flag in
-    let nn = c.wide in
-    let vn = c.wide-2 in
-    let vvn = c.wide-3 in
     c.write_rows.ensures ∙
-    ap (λ us. us ++ rest) (seven_set ws there.result l.sheet.year nn.result vn.result vvn.result l.events l.short size) ∙
-    (λ i. (there.ensures i ∷ l.sheet.year ∷ nn.ensures i ∷ vn.ensures i ∷ vvn.ensures i ∷ l.events ∷ l.short ∷ []) ++ rest) ∙
+    ap (λ us. us ++ rest) (seven_set ws c.from.result c.from-2.result c.from-3.result c.from-4.result c.from-5.result c.from-6.result c.from-7.result size) ∙
+    (λ i. ((c.from.ensures ∙ flag_byte l.sheet.there) i ∷ c.from-2.ensures i ∷ c.from-3.ensures i ∷ c.from-4.ensures i ∷ c.from-5.ensures i ∷ c.from-6.ensures i ∷ c.from-7.ensures i ∷ []) ++ rest) ∙
     sym (ap (λ t. cond t (words_before l ++ rest) ws) (eq-eqb (length ws) ledger_words size))

@@ -7,6 +7,6 @@ use Rattle.c_words.specs.Words.{ledger_words}
 use Rattle.c_words.specs.Header.{version}
 use Rattle.temelyak.proofs.temelyak_built.Goals as goal
 
-pub returns : goal.returns
-returns c =
+pub returns-in_default : goal.returns-in_default
+returns-in_default c =
     sym (get_or-eq_default (version ∷ ledger_words ∷ 72 ∷ 8192 ∷ 32 ∷ []) 0 {n = c.args.which} (omega arith))

@@ -1,6 +1,5 @@
 -- The place is the library's. Assumes nothing.
 use Prim.Native.Nat.{ℕ}
-use mathlib.Core.Path.{◌∙◌}
 use Rattle.std.proofs.Common.{rules, tests}
 use Rattle.std.proofs.lemmas.Iterator.{YieldsList-from_slice}
 use Rattle.std.proofs.lemmas.Iterator.Search.{position_from_yields_List}
@@ -12,5 +11,5 @@ pub returns : goal.returns
 returns c =
     let a = c.args in
     let test = (λ (b : ℕ). is_other b a.sep) in
-    let place = position_from_yields_List test _ _ c.position.result c.position.ensures.ran (YieldsList-from_slice a.gap.now cc) (λ x b q k. search (rules, tests)) in
-    c.unwrap_or.ensures ∙ first_told test a.gap.now c.position.result place
+    first_told test a.gap.now c.position.result
+    (position_from_yields_List test _ _ c.position.result c.position.ensures.ran (YieldsList-from_slice a.gap.now cc) (λ x b q k. search (rules, tests)))
