@@ -2,6 +2,7 @@
 #![tactic(auto)]
 
 use ledger::Ledger;
+use pen::Pen;
 use refill::Failed;
 use refusals::Refusal;
 use std::io::Read;
@@ -19,7 +20,7 @@ const MOST_WAITING: usize = 61440;
 
 // ---- what is said of a record, in a comment above it
 
-// What each line of the text has.
+// At the text's beginning: what each sort of line has.
 const HEADING: &str = "# sheet: year | customers on NN VN VVN\n\
     # simple: number type voltage cause | T0 T1 T2 T3 T4 | n1 on NN VN VVN | n2 on NN VN VVN\n\
     # stepped: number type voltage cause | T0 | for each step its time, and who was off until then on NN VN VVN\n";
@@ -50,8 +51,10 @@ fn refused(refusal: Refusal) -> &'static str {
             "# refused, 7: the number is 0, or the type, the voltage or the cause is not one of the annex's\n",
         Refusal::Time =>
             "# refused, 10: the times are out of order, or past the year's end or minute 600,000, or a planned outage has T1 after T0\n",
-        Refusal::Count => "# refused, 11: more customers are off on a level than the year sheet has there\n",
-        Refusal::Level => "# refused, 12: customers are off on a level above the one of the event's voltage\n",
+        Refusal::Count =>
+            "# refused, 11: more customers are off on a level than the year sheet has there\n",
+        Refusal::Level =>
+            "# refused, 12: customers are off on a level above the one of the event's voltage\n",
         Refusal::NoneThenSome => "# refused, 13: on some level n1 is 0 and n2 is not\n",
         Refusal::Used => "# refused, 14: an event with this number is in the book already\n",
         _ => "",
@@ -60,51 +63,41 @@ fn refused(refusal: Refusal) -> &'static str {
 
 // ---- the page
 
-// What is said waits in a buffer: the place of the next byte, and whether some could not be written.
+// What is said waits in a buffer before it is written out, and some of it may be lost.
 #[derive(Drop)]
 struct Page<'a, P: Print> {
     rt: &'a P,
-    buffer: [u8; 65536],
-    at: usize,
+    pen: Pen<'a>,
     lost: bool,
 }
 
 impl<'a, P: Print> Page<'a, P> {
-    fn new(rt: &'a P) -> Page<'a, P> {
-        Page {
-            rt,
-            buffer: [0; 65536],
-            at: 0,
-            lost: false,
-        }
-    }
-
     // Writes out the bytes that wait.
     fn write_out(&mut self) {
-        let waiting = wire::part(&self.buffer, 0, self.at);
+        let waiting = wire::part(&self.pen.out[..], 0, self.pen.at);
         if self.rt.write_all(waiting).is_err() {
             self.lost = true;
         }
-        self.at = 0;
+        self.pen.at = 0;
     }
 
     // Sees that there is room for a comment or a line.
     fn make_room(&mut self) {
-        if MOST_WAITING <= self.at {
+        if MOST_WAITING <= self.pen.at {
             self.write_out();
         }
     }
 
     fn say(&mut self, words: &str) {
         self.make_room();
-        self.at = pen::put_words(&mut self.buffer, self.at, words.as_bytes());
+        self.pen.put_words(words.as_bytes());
     }
 
     // A line, with times in a year.
     fn say_line(&mut self, entry: Entry, year: u16) {
         self.make_room();
-        let end = text_write::write_line(&mut self.buffer, self.at, entry, year);
-        self.at = pen::put(&mut self.buffer, end, b'\n');
+        self.pen.at = text_write::write_line(&mut self.pen.out[..], self.pen.at, entry, year);
+        self.pen.put(b'\n');
     }
 
     // Bytes, up to 32 in a line.
@@ -154,21 +147,12 @@ impl<'a, P: Print> Page<'a, P> {
 #[derive(Drop)]
 struct Book<'a, P: Print> {
     ledger: Ledger,
-    map: [u8; 8192],
+    map: [u8; ledger::MAP],
     year: u16,
     page: Page<'a, P>,
 }
 
 impl<'a, P: Print> Book<'a, P> {
-    fn new(rt: &'a P) -> Book<'a, P> {
-        Book {
-            ledger: Ledger::empty(),
-            map: [0; 8192],
-            year: 0,
-            page: Page::new(rt),
-        }
-    }
-
     // One record: its answer, and its line.
     fn take_record(&mut self, record: &[u8]) {
         match self.ledger.take(&mut self.map, record) {
@@ -225,7 +209,20 @@ impl<'a, P: Print> Book<'a, P> {
 
 fn main(rt: HostRuntime) {
     let mut buffer = [0u8; 65536];
-    let mut book = Book::new(&rt);
+    let mut out = [0u8; 65536];
+    let mut book = Book {
+        ledger: Ledger::empty(),
+        map: [0; ledger::MAP],
+        year: 0,
+        page: Page {
+            rt: &rt,
+            pen: Pen {
+                out: &mut out,
+                at: 0,
+            },
+            lost: false,
+        },
+    };
     book.page.say(HEADING);
     let read = book.say(&mut rt.stdin(), &mut buffer);
     book.page.write_out();

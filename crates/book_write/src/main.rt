@@ -56,8 +56,7 @@ fn expected_sentence(expected: Expected) -> &'static str {
         Expected::Time => "expected a time: minutes from 1 January 00:00, or MM-DD hh:mm",
         Expected::SheetBefore =>
             "expected a sheet that is in range on a line before a time as MM-DD hh:mm; minutes can be written without one",
-        Expected::DayOfYear =>
-            "expected a day of the sheet's year, and a time from 00:00 to 23:59",
+        Expected::DayOfYear => "expected a day of the sheet's year, and a time from 00:00 to 23:59",
         Expected::TwoDigits => "expected two hexadecimal digits",
         Expected::Gap => "expected a space, a tab, a comma, a semicolon or a bar",
         Expected::NoMore =>

@@ -1,15 +1,19 @@
 // What the drivers of run cases share: printing, the numbers and the sort of a line, and what a line stands for.
 #![tactic(auto)]
 
-ghost use Rattle.std.specs.Prelude.{◌≡◌, ◌↔◌, ◌+◌, ◌%◌, ◌<◌, ◌≤◌, ◌^◌, ◌++◌, length, slice_index, IsSome, IsTrue};
+ghost use Rattle.std.specs.Prelude.{◌≡◌, ◌↔◌, ◌-◌, ◌%◌, ◌<◌, ◌≤◌, ◌^◌, length, get_or, IsSome, IfSome};
 ghost use Rattle.refusals.specs.Refusals.{answer_in};
 ghost use Rattle.wire.specs.Numbers.{byte_at, le2};
-ghost use Rattle.pen.specs.Pen.{spot, pushed_all};
+ghost use Rattle.codes.specs.Codes.{row_of};
+ghost use Rattle.pen.specs.Pen.{inked, spot, pushed_all};
+ghost use Rattle.text_items.specs.Sorts.{entry_in};
 ghost use Rattle.text_parse.specs.Entry.{parsed_of};
+ghost use Rattle.cases.specs.Lent.{row_lent, rows_lent, bytes_told};
 
 use annex::{Customers, HalfMinutes};
 use fields::Sheet;
 use ledger::{Cell, Ledger, TypeRow};
+use pen::Pen;
 use refusals::Refusal;
 use std::fmt::Display;
 use text_items::Entry;
@@ -92,7 +96,9 @@ pub fn first_numbers(line: &[u8]) -> Numbers<12>
     let mut count = 0;
     for digits in line.split(|b| !b.is_ascii_digit()) {
         if !digits.is_empty() && count < values.len() {
-            values[count] = digits.iter().fold(0, |value, digit| wrapping(value, *digit));
+            values[count] = digits
+                .iter()
+                .fold(0, |value, digit| wrapping(value, *digit));
             count += 1;
         }
     }
@@ -128,7 +134,7 @@ pub fn numbers_by_turns(line: &[u8]) -> Numbers<16>
 
 // A word past, and the space behind it.
 pub fn past_word(line: &[u8]) -> &[u8]
-    ensures { length result.now ≤ length line.now }
+    ensures { length result.now ≤ length line.now - 1 }
 {
     match line.iter().position(|b| *b == b' ') {
         Some(space) => &line[space + 1..],
@@ -194,26 +200,29 @@ impl<'a> Line<'a> {
 
 // What a line of docs/TEXT.md says, its times in minutes.
 pub fn entry_told(line: &[u8]) -> Option<Entry>
-    ensures { IsSome result ↔ ((parsed_of line.now 0).answer ≡ 0) }
+    ensures told { IsSome result ↔ ((parsed_of line.now 0).answer ≡ 0) }
+    ensures entry { IfSome result (λ entry. entry_in entry ≡ (parsed_of line.now 0).entry) }
 {
     text_parse::parse(line, 0).ok()
 }
 
 // The bytes that such a line stands for, put at the front of a buffer: how many. None for any other line.
-pub fn put_told(out: &mut [u8], line: &[u8]) -> usize {
+pub fn put_told(out: &mut [u8], line: &[u8]) -> usize
+    ensures { spot out.new result ≡ pushed_all (spot out.old 0) (bytes_told line.now) }
+{
     match entry_told(line) {
         Some(entry) => pack::pack(out, 0, entry),
         None => 0,
     }
 }
 
-// The size, the kind and a number that a record begins with, at the front of a buffer: the place behind them.
-pub fn put_frame(out: &mut [u8], size: u32, kind: u32, n: u64) -> usize
-    ensures { spot out.new result ≡ pushed_all (pushed_all (pushed_all (spot out.old 0) (le2 size)) (le2 kind)) (le2 (n % 2 ^ 32)) }
+// The size, the kind and a number that a record begins with.
+pub fn put_frame(pen: &mut Pen, size: u32, kind: u32, n: u64)
+    ensures { pen.new ≡ inked (inked (inked pen.old (le2 size)) (le2 kind)) (le2 (n % 2 ^ 32)) }
 {
-    let kind_at = pen::put_le2(out, 0, size);
-    let number_at = pen::put_le2(out, kind_at, kind);
-    pen::put_le2(out, number_at, four(n))
+    pen.put_le2(size);
+    pen.put_le2(kind);
+    pen.put_le2(four(n));
 }
 
 // ---- a ledger that is lent
@@ -228,7 +237,9 @@ fn sheet_of(v: [u64; 12]) -> Sheet {
 
 // THERE | YEAR | NN VN VVN | EVENTS SHORT: a ledger whose cells are all 0.
 pub fn ledger_of(v: [u64; 12]) -> Ledger
-    ensures { result.events ≡ slice_index v 5 % 2 ^ 16 }
+    ensures year { result.sheet.year ≡ get_or v 1 0 % 2 ^ 16 }
+    ensures events { result.events ≡ get_or v 5 0 % 2 ^ 16 }
+    ensures short { result.short ≡ get_or v 6 0 % 2 ^ 16 }
 {
     Ledger {
         sheet: sheet_of(v),
@@ -246,7 +257,9 @@ fn cell_of(customers: u64, halves: u64) -> Cell {
 }
 
 // TYPE | CUSTOMERS HALVES | CUSTOMERS HALVES | CUSTOMERS HALVES: the cells of a type, NN, VN and VVN.
-pub fn row_of(v: [u64; 12]) -> TypeRow {
+pub fn row_of(v: [u64; 12]) -> TypeRow
+    ensures { result ≡ row_lent v }
+{
     TypeRow {
         levels: [
             cell_of(v[1], v[2]),
@@ -257,13 +270,19 @@ pub fn row_of(v: [u64; 12]) -> TypeRow {
 }
 
 // The place of a type's row; the number of rows for a type that is not listed.
-pub fn place_of(typ: u64) -> usize {
+pub fn place_of(typ: u64) -> usize
+    ensures { result ≡ row_of (typ % 2 ^ 8) }
+{
     usize::from(codes::row_of(byte(typ)))
 }
 
 // Sets the cells of the type that the numbers begin with. A type that is not listed has none.
-pub fn set_row(ledger: &mut Ledger, v: [u64; 12]) {
-    if let Some(row) = ledger.rows.get_mut(place_of(v[0])) {
-        *row = row_of(v);
+pub fn set_row(ledger: &mut Ledger, v: [u64; 12])
+    ensures rows { ledger.new.rows ≡ rows_lent ledger.old.rows (row_of (get_or v 0 0 % 2 ^ 8)) (row_lent v) }
+    ensures events { ledger.new.events ≡ ledger.old.events }
+{
+    let place = place_of(v[0]);
+    if place < codes::ROWS {
+        ledger.rows[place] = row_of(v);
     }
 }

@@ -37,6 +37,7 @@ use cases::Line;
 use codes::LEVELS;
 use fields::Head;
 use ledger::{Cell, Ledger};
+use pen::Pen;
 use refusals::Refusal;
 use slot::Slot;
 
@@ -114,26 +115,25 @@ fn values_of(out: &impl Print, line: &[u8]) -> [u64; 16] {
 
 // ---- messages and records
 
-fn put_open(out: &mut [u8], v: [u64; 16]) -> usize {
-    let type_at = cases::put_frame(out, 13, 16, v[1]);
-    let voltage_at = pen::put(out, type_at, cases::byte(v[2]));
-    let cause_at = pen::put(out, voltage_at, cases::byte(v[3]));
-    let t0_at = pen::put(out, cause_at, cases::byte(v[4]));
-    pen::put_le4(out, t0_at, cases::four(v[5]))
+fn put_open(pen: &mut Pen, v: [u64; 16]) {
+    cases::put_frame(pen, 13, 16, v[1]);
+    pen.put(cases::byte(v[2]));
+    pen.put(cases::byte(v[3]));
+    pen.put(cases::byte(v[4]));
+    pen.put_le4(cases::four(v[5]));
 }
 
-fn put_step(out: &mut [u8], v: [u64; 16]) -> usize {
-    let ordinal_at = cases::put_frame(out, 23, 17, v[1]);
-    let time_at = pen::put(out, ordinal_at, cases::byte(v[2]));
-    let nn_at = pen::put_le4(out, time_at, cases::four(v[3]));
-    let vn_at = pen::put_le4(out, nn_at, cases::four(v[4]));
-    let vvn_at = pen::put_le4(out, vn_at, cases::four(v[5]));
-    pen::put_le4(out, vvn_at, cases::four(v[6]))
+fn put_step(pen: &mut Pen, v: [u64; 16]) {
+    cases::put_frame(pen, 23, 17, v[1]);
+    pen.put(cases::byte(v[2]));
+    for n in [v[3], v[4], v[5], v[6]] {
+        pen.put_le4(cases::four(n));
+    }
 }
 
-fn put_close(out: &mut [u8], v: [u64; 16]) -> usize {
-    let steps_at = cases::put_frame(out, 7, 18, v[1]);
-    pen::put(out, steps_at, cases::byte(v[2]))
+fn put_close(pen: &mut Pen, v: [u64; 16]) {
+    cases::put_frame(pen, 7, 18, v[1]);
+    pen.put(cases::byte(v[2]));
 }
 
 // The numbers of a step of number 9, ordinal 1.
@@ -141,14 +141,18 @@ const NINTH: [u64; 16] = [0, 9, 1, 0, 0, 0, 0, 0, 0, 0, 0, 0, 0, 0, 0, 0];
 
 // The bytes that a line stands for; none where it is no message and no record.
 fn put_line(out: &mut [u8], line: &[u8], word: Word, v: [u64; 16]) -> usize {
-    match word {
-        Word::Sheet | Word::Stepped | Word::Hex => cases::put_told(out, line),
-        Word::Open => put_open(out, v),
-        Word::Step => put_step(out, v),
-        Word::Close => put_close(out, v),
-        Word::Slot => put_step(out, NINTH),
-        _ => 0,
+    if let Word::Sheet | Word::Stepped | Word::Hex = word {
+        return cases::put_told(out, line);
     }
+    let mut pen = Pen { out, at: 0 };
+    match word {
+        Word::Open => put_open(&mut pen, v),
+        Word::Step => put_step(&mut pen, v),
+        Word::Close => put_close(&mut pen, v),
+        Word::Slot => put_step(&mut pen, NINTH),
+        _ => {}
+    }
+    pen.at
 }
 
 // ---- what is looked at

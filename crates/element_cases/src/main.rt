@@ -37,6 +37,7 @@ use element_pieces::Inflow;
 use element_row::Row;
 use element_table::Table;
 use ledger::Ledger;
+use pen::Pen;
 use ratio::Fraction;
 use refusals::Refusal;
 
@@ -121,27 +122,32 @@ fn values_of(out: &impl Print, line: &[u8]) -> [u64; 16] {
 
 // ---- records
 
-fn put_outage(out: &mut [u8], v: [u64; 16]) -> usize {
-    let start_at = cases::put_frame(out, 14, 4, v[1]);
-    let end_at = pen::put_le4(out, start_at, cases::four(v[2]));
-    pen::put_le4(out, end_at, cases::four(v[3]))
+fn put_outage(pen: &mut Pen, v: [u64; 16]) {
+    cases::put_frame(pen, 14, 4, v[1]);
+    pen.put_le4(cases::four(v[2]));
+    pen.put_le4(cases::four(v[3]));
 }
 
-fn put_stock(out: &mut [u8], v: [u64; 16]) -> usize {
-    let unit_at = cases::put_frame(out, 11, 5, v[1]);
-    let amount_at = pen::put(out, unit_at, cases::byte(v[2]));
-    pen::put_le4(out, amount_at, cases::four(v[3]))
+fn put_stock(pen: &mut Pen, v: [u64; 16]) {
+    cases::put_frame(pen, 11, 5, v[1]);
+    pen.put(cases::byte(v[2]));
+    pen.put_le4(cases::four(v[3]));
 }
 
 // The bytes that a line stands for; none where it is no record.
 fn put_line(out: &mut [u8], line: &[u8], word: Word, v: [u64; 16]) -> usize {
     match word {
-        Word::Sheet | Word::Hex => cases::put_told(out, line),
-        Word::Book => cases::put_told(out, past_book(line)),
-        Word::Outage => put_outage(out, v),
-        Word::Stock => put_stock(out, v),
-        _ => 0,
+        Word::Sheet | Word::Hex => return cases::put_told(out, line),
+        Word::Book => return cases::put_told(out, past_book(line)),
+        _ => {}
     }
+    let mut pen = Pen { out, at: 0 };
+    match word {
+        Word::Outage => put_outage(&mut pen, v),
+        Word::Stock => put_stock(&mut pen, v),
+        _ => {}
+    }
+    pen.at
 }
 
 // ---- what is looked at

@@ -244,10 +244,7 @@ fn main(rt: HostRuntime) {
         );
         return;
     };
-    let program = Program {
-        rt: &rt,
-        err: &err,
-    };
+    let program = Program { rt: &rt, err: &err };
     let Ok(sheet) = program.take_files(table) else {
         return;
     };

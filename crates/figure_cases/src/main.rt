@@ -148,12 +148,7 @@ impl Bench {
         let mut map = [0u8; 8192];
         let size = (v[4] as usize).min(map.len());
         let begun = feed_of(self.ledger, v[1], v[2], v[3]);
-        let fed = book_pieces::take_piece(
-            begun,
-            &mut map[..size],
-            &mut self.buffer,
-            v[0] as usize,
-        );
+        let fed = book_pieces::take_piece(begun, &mut map[..size], &mut self.buffer, v[0] as usize);
         cases::write_number(out, cases::answer_of(&fed));
         let feed = fed.unwrap_or(begun);
         cases::write_number(out, feed.ledger.events);
