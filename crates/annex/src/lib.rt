@@ -71,10 +71,7 @@ pub fn minutes_in(year: u16) -> u32
 pub fn is_short(start: u32, end: u32) -> bool
     ensures { result ≡ is_short start end }
 {
-    if end < start {
-        return true;
-    }
-    end - start <= 3
+    end.saturating_sub(start) <= 3
 }
 
 // The larger of two numbers of customers.
@@ -106,28 +103,26 @@ impl Figures {
         ensures { result ≡ nothing }
     {
         Figures {
-            customers: [Customers(0), Customers(0), Customers(0)],
-            halves: [HalfMinutes(0), HalfMinutes(0), HalfMinutes(0)],
+            customers: [Customers(0); LEVELS],
+            halves: [HalfMinutes(0); LEVELS],
         }
     }
 
-    // The figures with a step whose counts held for so many minutes.
+    // The figures with a step whose counts held for so many minutes. Level by level: `from_fn` would need a closure with clauses of its own for each array.
     fn with_step(self, counts: [u32; LEVELS], minutes: u32) -> Figures
         requires { Room self × (minutes ≤ latest) }
         ensures { result ≡ with_step self counts minutes }
     {
-        let c = self.customers;
-        let h = self.halves;
         Figures {
             customers: [
-                larger(c[0], counts[0]),
-                larger(c[1], counts[1]),
-                larger(c[2], counts[2]),
+                larger(self.customers[0], counts[0]),
+                larger(self.customers[1], counts[1]),
+                larger(self.customers[2], counts[2]),
             ],
             halves: [
-                longer(h[0], counts[0], minutes),
-                longer(h[1], counts[1], minutes),
-                longer(h[2], counts[2], minutes),
+                longer(self.halves[0], counts[0], minutes),
+                longer(self.halves[1], counts[1], minutes),
+                longer(self.halves[2], counts[2], minutes),
             ],
         }
     }
@@ -149,11 +144,9 @@ impl Course {
         requires { Ready self step }
         ensures { result ≡ coursed self step }
     {
-        let f = self.figures;
-        let counts = step.counts;
         Course {
             last: step.time,
-            figures: f.with_step(counts, step.time - self.last),
+            figures: self.figures.with_step(step.counts, step.time - self.last),
         }
     }
 }
@@ -173,23 +166,21 @@ impl Simple {
         )
     }
 
-    // What a simple event adds.
+    // What a simple event adds. Level by level: `map` and `from_fn` would need a closure with clauses of its own for each array.
     pub fn figures(self) -> Figures
         requires { InOrder self }
         ensures { result ≡ simple_figures self }
     {
-        let a = self.n1;
-        let b = self.n2;
         Figures {
             customers: [
-                Customers(a[0] as u64),
-                Customers(a[1] as u64),
-                Customers(a[2] as u64),
+                Customers(self.n1[0] as u64),
+                Customers(self.n1[1] as u64),
+                Customers(self.n1[2] as u64),
             ],
             halves: [
-                self.halves(a[0], b[0]),
-                self.halves(a[1], b[1]),
-                self.halves(a[2], b[2]),
+                self.halves(self.n1[0], self.n2[0]),
+                self.halves(self.n1[1], self.n2[1]),
+                self.halves(self.n1[2], self.n2[2]),
             ],
         }
     }

@@ -3,14 +3,17 @@ use mathlib.Core.Path.{◌≡◌, sym, ap, ◌∙◌}
 use Prim.Native.Nat.{ℕ, ◌+◌, ◌≤◌}
 use native.Mathlib.Nat.{add-zero}
 use native.Mathlib.Omega.{arith}
-use mathlib.Core.Bool.{true, false, ◌&&◌}
+use mathlib.Core.Bool.{Bool, true, false, ◌&&◌, not, cond}
 use mathlib.Core.List.{List}
 use lib.Dec.{eqb}
 use lib.ListN.{length, take, length-take}
-use borrow.Author.Tests.{eqb-true, ne_eqb}
-use Rattle.base.proofs.TestLaws.{and_left, and_right}
+use borrow.Author.Tests.{eqb-true, eq-eqb, ne_eqb}
+use Rattle.std.specs.Prelude.{Result}
+use Rattle.base.proofs.TestLaws.{Tested, holds, fails, test, and_left, and_right}
 use Rattle.wire.specs.Cut.{records_of, stop_from}
-use Rattle.records.specs.Pieces.{most_refused, dead_rest, moved, Held, held_after, buffer_on}
+use Rattle.records.specs.Pieces.{piece_answer, most_refused, dead_rest, moved, Held, held_after, buffer_on}
+use Rattle.refusals.specs.declared.Refusal.{Refusal}
+use Rattle.refusals.specs.Refusals.{answer_in}
 use Rattle.records.proofs.AnswerLaws.{piece_clear}
 use Rattle.records.proofs.HeldLaws.{on_dead, on_more}
 use Rattle.used_numbers.specs.Marks.{map_size}
@@ -19,13 +22,20 @@ use Rattle.book.specs.Book.{BookState, starting, take_record, take_all, after_bo
 use Rattle.book.proofs.RunLaws.{refused_below}
 use Rattle.book.proofs.AppendLaws.{refused_before, before_all}
 use Rattle.book_pieces.specs.declared.Feed.{Feed}
-use Rattle.book_pieces.specs.declared.Fed.{Fed}
-use Rattle.book_pieces.specs.Feed.{reading_of, feed_of, fed_answer, read_on, buffer_fed, map_fed, fed_of}
+use Rattle.book_pieces.specs.Feed.{Fed, reading_of, feed_of, fed_answer, read_on, buffer_fed, map_fed, fed_of, finish_answer, finished_of}
 
 module _ (f : Feed) (m b : List ℕ) (filled : ℕ) where
   -- what the call came to: its answer, the map and the buffer
   abbrev pub Comes : Fed → List ℕ → List ℕ → Type 0
   Comes r m₁ b₁ = (r ≡ fed_of f m b filled) × (m₁ ≡ map_fed f m b filled) × (b₁ ≡ buffer_fed f m b filled)
+
+  -- what is answered, by what is asked of the ledger
+  pub fed_told :
+      (x : Result (Unit {0}) Refusal) (sound : Bool) →
+      answer_in x ≡ piece_answer (eqb (length m) map_size && sound) f.refused (length b) filled →
+      sound ≡ sound_ledger f.ledger →
+      answer_in x ≡ fed_answer f m b filled
+  fed_told x sound told is = told ∙ ap (λ (s : Bool). piece_answer (eqb (length m) map_size && s) f.refused (length b) filled) is
 
   -- a piece that is refused leaves the feed, the map and the buffer as they were
   pub feed_refused : (fed_answer f m b filled ≡ 0 → ⊥) → Comes (record { answer = fed_answer f m b filled; feed = f }) m b
@@ -105,3 +115,19 @@ module _ (f : Feed) (m b : List ℕ) (filled : ℕ) where
           ap (λ (h : Held BookState). h.state.map) h ∙ fed_on.1,
           sym e.1 ∙ fed_on.2,
         )
+
+-- the end: refused, or what is held is a broken length
+module _ (f : Feed) where
+  pub finish_refused : (finish_answer f ≡ 0 → ⊥) → record { answer = finish_answer f; ledger = f.ledger; refused = f.refused; broken = false } ≡ finished_of f
+  unfolding finished_of
+  finish_refused z = let u = ne_eqb (finish_answer f) 0 z in sym (rw u)
+
+  told_either : finish_answer f ≡ 0 → Tested (eqb f.held 0) → record { answer = 0; ledger = f.ledger; refused = f.refused + cond (not (eqb f.held 0)) 1 0; broken = not (eqb f.held 0) } ≡ finished_of f
+  unfolding finished_of
+  told_either a (holds e) =
+      let z = eq-eqb (finish_answer f) 0 a in
+      rw (z, e) (λ i. record { answer = 0; ledger = f.ledger; refused = add-zero f.refused i; broken = false })
+  told_either a (fails e) = let z = eq-eqb (finish_answer f) 0 a in rw (z, e)
+
+  pub finish_told : finish_answer f ≡ 0 → record { answer = 0; ledger = f.ledger; refused = f.refused + cond (not (eqb f.held 0)) 1 0; broken = not (eqb f.held 0) } ≡ finished_of f
+  finish_told a = told_either a (test (eqb f.held 0))

@@ -20,13 +20,11 @@ use Rattle.ledger.specs.declared.Ledger.{Ledger}
 use Rattle.ledger.specs.Sound.{sound_ledger}
 use Rattle.ledger.specs.Take.{unsound}
 use Rattle.ledger.proofs.TakeLaws.{map_size_kept}
-use Rattle.book.specs.Book.{Read}
-use Rattle.book.specs.Book.{BookState, starting, take_record, after_book, read_of}
+use Rattle.book.specs.Book.{Read, BookState, starting, take_record, after_book, read_of}
 use Rattle.book.proofs.RunLaws.{read_through, refused_below}
 use Rattle.book.proofs.SoundLaws.{sound_record, sound_run}
 use Rattle.book_pieces.specs.declared.Feed.{Feed}
-use Rattle.book_pieces.specs.declared.Fed.{Fed}
-use Rattle.book_pieces.specs.Feed.{reading_of, fed_answer, finish_answer, buffer_fed, map_fed, fed_of, finished_of}
+use Rattle.book_pieces.specs.Feed.{Fed, reading_of, fed_answer, finish_answer, buffer_fed, map_fed, fed_of, finished_of}
 use Rattle.book_pieces.proofs.FeedLaws.{fed_on, buffer_long, ledger_sound, map_long}
 
 module _ (f : Feed) (m b : List ℕ) (filled : ℕ) (u : fed_answer f m b filled ≡ 0) where

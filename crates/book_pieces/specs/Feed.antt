@@ -1,13 +1,28 @@
 -- A book taken in pieces: "the year report reads one book from standard input", of any length, in constant memory.
-use Rattle.std.specs.Prelude.{ℕ, ◌+◌, List, true, false, ◌&&◌, cond, length, eqb}
+use Rattle.std.specs.Prelude.{ℕ, ◌+◌, List, true, false, ◌&&◌, cond, length, eqb, Result, Ok, Err}
 use Rattle.records.specs.Pieces.{Held, held_on, buffer_on, end_answer, piece_answer}
 use Rattle.used_numbers.specs.Marks.{map_size}
 use Rattle.ledger.specs.declared.Ledger.{Ledger}
 use Rattle.ledger.specs.Sound.{sound_ledger}
-use Rattle.book.specs.Book.{Read}
-use Rattle.book.specs.Book.{BookState, take_record}
+use Rattle.refusals.specs.declared.Refusal.{Refusal}
+use Rattle.refusals.specs.Refusals.{number_of}
+use Rattle.book.specs.declared.Read.{Read as Outcome}
+use Rattle.book.specs.Book.{Read, BookState, take_record}
 use Rattle.book_pieces.specs.declared.Feed.{Feed}
-use Rattle.book_pieces.specs.declared.Fed.{Fed}
+
+-- an answer number, and the next feed
+pub record Fed : Type 0 where
+  pub answer : ℕ
+  pub feed : Feed
+
+-- an outcome by number and feed: a refusal leaves the feed that stands beside it
+abbrev pub fed_in : Feed → Result Feed Refusal → Fed
+fed_in left (Ok next) = record { answer = 0; feed = next }
+fed_in left (Err refusal) = record { answer = number_of refusal; feed = left }
+
+abbrev pub finished_in : Feed → Result Outcome Refusal → Read
+finished_in left (Ok r) = record { answer = 0; ledger = r.ledger; refused = r.refused; broken = r.broken }
+finished_in left (Err refusal) = record { answer = number_of refusal; ledger = left.ledger; refused = left.refused; broken = false }
 
 -- a feed that begins: nothing is refused, and nothing held
 abbrev pub begun_of : Ledger → Feed

@@ -3,10 +3,11 @@
 #![tactic(auto)]
 
 ghost use Rattle.std.specs.Prelude.{◌≡◌};
-ghost use Rattle.book_pieces.specs.Feed.{begun_of, fed_of, map_fed, buffer_fed, finished_of};
+ghost use Rattle.book_pieces.specs.Feed.{begun_of, fed_in, fed_of, map_fed, buffer_fed, finished_in, finished_of};
 
 use book::Read;
 use ledger::Ledger;
+use refusals::Refusal;
 
 // So far: the ledger, the refused records, how many bytes at the front of the buffer are still to be read, and whether they begin with a length below 4,
 // after which no record can follow.
@@ -16,13 +17,6 @@ pub struct Feed {
     pub refused: u64,
     pub held: usize,
     pub dead: bool,
-}
-
-// An answer number, and the next feed.
-#[derive(Clone, Copy)]
-pub struct Fed {
-    pub answer: u8,
-    pub feed: Feed,
 }
 
 // Begins a book: nothing is refused, and nothing held. A ledger that is not sound is refused with the first piece, and at the end.
@@ -37,63 +31,42 @@ pub fn begin(ledger: Ledger) -> Feed
     }
 }
 
-// Takes the whole records among the first `filled` bytes of the buffer. Nothing is changed where the answer is not 0: 1 for an unsound ledger or a map of
-// another size, `records::MANY_REFUSED` for a count of refused records above `records::MOST_REFUSED`, `records::MORE_TOLD` for a buffer that is shorter than `filled`.
-pub fn take_piece(f: Feed, map: &mut [u8], buffer: &mut [u8], filled: usize) -> Fed
-    ensures { (result ≡ fed_of f map.old buffer.old filled) × (map.new ≡ map_fed f map.old buffer.old filled) × (buffer.new ≡ buffer_fed f map.old buffer.old filled) }
+// Takes the whole records among the first `filled` bytes of the buffer: the next feed. A refusal leaves the map and the buffer: `Unsound` for an unsound ledger
+// or a map of another size, `ManyRefused` for a count of refused records above `records::MOST_REFUSED`, `MoreTold` for a buffer that is shorter than `filled`.
+pub fn take_piece(
+    feed: Feed,
+    map: &mut [u8],
+    buffer: &mut [u8],
+    filled: usize,
+) -> Result<Feed, Refusal>
+    ensures { (fed_in feed result ≡ fed_of feed map.old buffer.old filled) × (map.new ≡ map_fed feed map.old buffer.old filled) × (buffer.new ≡ buffer_fed feed map.old buffer.old filled) }
 {
-    let l = f.ledger;
-    let fit = (map.len() == ledger::MAP) & l.sound();
-    let answer = records::piece_answer(fit, f.refused, buffer.len(), filled);
-    if answer != 0 {
-        return Fed { answer, feed: f };
+    let fit = (map.len() == ledger::MAP) & feed.ledger.sound();
+    records::piece_answer(fit, feed.refused, buffer.len(), filled)?;
+    if feed.dead {
+        return Ok(feed);
     }
-    if f.dead {
-        return Fed { answer: 0, feed: f };
-    }
-    let run = book::take_records(l, map, wire::part(&buffer[..], 0, filled));
-    let next = run.ledger;
+    let run = book::take_records(feed.ledger, map, &buffer[..filled]);
     let held = filled - run.stop;
     records::move_to_front(buffer, run.stop, filled);
-    Fed {
-        answer: 0,
-        feed: Feed {
-            ledger: next,
-            refused: f.refused + run.refused,
-            held,
-            dead: records::is_dead(&buffer[..], held),
-        },
-    }
+    Ok(Feed {
+        ledger: run.ledger,
+        refused: feed.refused + run.refused,
+        held,
+        dead: records::is_dead(buffer, held),
+    })
 }
 
-// The outcome once the input has ended: what is left over is a broken length, and counts as one refusal. 1 for an unsound ledger,
-// `records::MANY_REFUSED` for a count of refused records above `records::MOST_REFUSED`.
-pub fn finish(f: Feed) -> Read
-    ensures { result ≡ finished_of f }
+// The outcome once the input has ended: what is left over is a broken length, and counts as one refusal. `Unsound` for an unsound ledger, `ManyRefused` for a
+// count of refused records above `records::MOST_REFUSED`.
+pub fn finish(feed: Feed) -> Result<Read, Refusal>
+    ensures { finished_in feed result ≡ finished_of feed }
 {
-    let l = f.ledger;
-    let sound = l.sound();
-    let answer = records::end_answer(sound, f.refused);
-    if answer != 0 {
-        return Read {
-            answer,
-            ledger: l,
-            refused: f.refused,
-            broken: false,
-        };
-    }
-    if f.held == 0 {
-        return Read {
-            answer: 0,
-            ledger: l,
-            refused: f.refused,
-            broken: false,
-        };
-    }
-    Read {
-        answer: 0,
-        ledger: l,
-        refused: f.refused + 1,
-        broken: true,
-    }
+    records::end_answer(feed.ledger.sound(), feed.refused)?;
+    let broken = feed.held != 0;
+    Ok(Read {
+        ledger: feed.ledger,
+        refused: feed.refused + u64::from(broken),
+        broken,
+    })
 }

@@ -3,12 +3,17 @@ use mathlib.Core.Path.{◌≡◌, sym, ap, ◌∙◌}
 use Prim.Native.Nat.{ℕ, ◌+◌, ◌≤◌}
 use native.Mathlib.Nat.{add-zero}
 use native.Mathlib.Omega.{arith}
-use mathlib.Core.Bool.{true, false}
+use mathlib.Core.Bool.{Bool, true, false, not, cond}
 use mathlib.Core.List.{List}
+use lib.Dec.{eqb}
 use lib.ListN.{length, take, length-take}
-use borrow.Author.Tests.{ne_eqb}
+use borrow.Author.Tests.{eq-eqb, ne_eqb}
+use Rattle.std.specs.Prelude.{Result}
+use Rattle.base.proofs.TestLaws.{Tested, holds, fails, test}
 use Rattle.wire.specs.Cut.{records_of, stop_from}
-use Rattle.records.specs.Pieces.{most_refused, dead_rest, moved, Held, held_after, held_on, buffer_on}
+use Rattle.records.specs.Pieces.{piece_answer, most_refused, dead_rest, moved, Held, held_after, held_on, buffer_on}
+use Rattle.refusals.specs.declared.Refusal.{Refusal}
+use Rattle.refusals.specs.Refusals.{answer_in}
 use Rattle.records.proofs.AnswerLaws.{piece_clear}
 use Rattle.records.proofs.HeldLaws.{on_dead, on_more}
 use Rattle.element_table.specs.Table.{sound_table}
@@ -16,13 +21,20 @@ use Rattle.element_file.specs.Yearly.{FileState, starting, take_record, take_all
 use Rattle.element_file.proofs.RunLaws.{refused_below}
 use Rattle.element_file.proofs.AppendLaws.{refused_before, before_all}
 use Rattle.element_pieces.specs.declared.Inflow.{Inflow}
-use Rattle.element_pieces.specs.declared.Flowed.{Flowed}
-use Rattle.element_pieces.specs.Inflow.{reading_of, flow_of, flow_answer, buffer_after, flowed_of}
+use Rattle.element_pieces.specs.Inflow.{Flowed, reading_of, flow_of, flow_answer, buffer_after, flowed_of, finish_answer, finished_of}
 
 module _ (f : Inflow) (b : List ℕ) (filled : ℕ) where
   -- what the call came to: its answer and the buffer
   abbrev pub Comes : Flowed → List ℕ → Type 0
   Comes r b₁ = (r ≡ flowed_of f b filled) × (b₁ ≡ buffer_after f b filled)
+
+  -- what is answered, by what is asked of the table
+  pub flow_told :
+      (x : Result (Unit {0}) Refusal) (sound : Bool) →
+      answer_in x ≡ piece_answer sound f.refused (length b) filled →
+      sound ≡ sound_table f.table →
+      answer_in x ≡ flow_answer f b filled
+  flow_told x sound told is = told ∙ ap (λ (s : Bool). piece_answer s f.refused (length b) filled) is
 
   -- a piece that is refused: its number is answered, and inflow and buffer are as they were
   pub flow_refused : (flow_answer f b filled ≡ 0 → ⊥) → Comes (record { answer = flow_answer f b filled; flow = f }) b
@@ -90,3 +102,19 @@ module _ (f : Inflow) (b : List ℕ) (filled : ℕ) where
         }) ∙
         sym e.0 in
         (ap (λ (h : Held FileState). record { answer = 0; flow = flow_of h }) h ∙ flowed_on.0, sym e.1 ∙ flowed_on.1)
+
+-- the end: refused, or what is held is a broken length
+module _ (f : Inflow) where
+  pub finish_refused : (finish_answer f ≡ 0 → ⊥) → record { answer = finish_answer f; table = f.table; refused = f.refused; broken = false } ≡ finished_of f
+  unfolding finished_of
+  finish_refused z = let u = ne_eqb (finish_answer f) 0 z in sym (rw u)
+
+  told_either : finish_answer f ≡ 0 → Tested (eqb f.held 0) → record { answer = 0; table = f.table; refused = f.refused + cond (not (eqb f.held 0)) 1 0; broken = not (eqb f.held 0) } ≡ finished_of f
+  unfolding finished_of
+  told_either a (holds e) =
+      let z = eq-eqb (finish_answer f) 0 a in
+      rw (z, e) (λ i. record { answer = 0; table = f.table; refused = add-zero f.refused i; broken = false })
+  told_either a (fails e) = let z = eq-eqb (finish_answer f) 0 a in rw (z, e)
+
+  pub finish_told : finish_answer f ≡ 0 → record { answer = 0; table = f.table; refused = f.refused + cond (not (eqb f.held 0)) 1 0; broken = not (eqb f.held 0) } ≡ finished_of f
+  finish_told a = told_either a (test (eqb f.held 0))

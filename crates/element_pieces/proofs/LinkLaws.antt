@@ -22,12 +22,10 @@ use Rattle.element_table.specs.Table.{Filed}
 use Rattle.element_table.specs.Table.{sound_table, seen_as}
 use Rattle.element_table.proofs.AnswerLaws.{file_begins, file_refused}
 use Rattle.element_table.proofs.SoundLaws.{marked_sound}
-use Rattle.element_file.specs.declared.Reading.{Reading}
-use Rattle.element_file.specs.Yearly.{FileState, starting, take_record, after_file, file_of}
+use Rattle.element_file.specs.Yearly.{Reading, FileState, starting, take_record, after_file, file_of}
 use Rattle.element_file.proofs.RunLaws.{record_sound, run_sound, file_through, refused_below}
 use Rattle.element_pieces.specs.declared.Inflow.{Inflow}
-use Rattle.element_pieces.specs.declared.Flowed.{Flowed}
-use Rattle.element_pieces.specs.Inflow.{fresh, begun_of, reading_of, flow_answer, finish_answer, buffer_after, flowed_of, taker, finished_of}
+use Rattle.element_pieces.specs.Inflow.{Flowed, fresh, begun_of, reading_of, flow_answer, finish_answer, buffer_after, flowed_of, taker, finished_of}
 use Rattle.element_pieces.proofs.FlowLaws.{flow_refused, flowed_on, table_sound, buffer_long}
 
 module _ (f : Inflow) (b : List ℕ) (filled : ℕ) (u : flow_answer f b filled ≡ 0) where

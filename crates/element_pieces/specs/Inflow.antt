@@ -1,13 +1,28 @@
 -- An element table "fed one or more yearly files" (02, K1), each of any length, in constant memory: a file taken in pieces.
-use Rattle.std.specs.Prelude.{ℕ, ◌+◌, List, true, false, cond, length, eqb}
+use Rattle.std.specs.Prelude.{ℕ, ◌+◌, List, true, false, cond, length, eqb, Result, Ok, Err}
 use Rattle.records.specs.Pieces.{Held, held_on, buffer_on, end_answer, piece_answer}
 use Rattle.records.specs.Calls.{Taker}
 use Rattle.element_table.specs.declared.Table.{Table}
 use Rattle.element_table.specs.Table.{sound_table, file_begun}
-use Rattle.element_file.specs.declared.Reading.{Reading}
-use Rattle.element_file.specs.Yearly.{FileState, take_record}
+use Rattle.refusals.specs.declared.Refusal.{Refusal}
+use Rattle.refusals.specs.Refusals.{number_of}
+use Rattle.element_file.specs.declared.Reading.{Reading as Read}
+use Rattle.element_file.specs.Yearly.{Reading, FileState, take_record}
 use Rattle.element_pieces.specs.declared.Inflow.{Inflow}
-use Rattle.element_pieces.specs.declared.Flowed.{Flowed}
+
+-- an answer number, and the next inflow
+pub record Flowed : Type 0 where
+  pub answer : ℕ
+  pub flow : Inflow
+
+-- an outcome by number and inflow: a refusal leaves the inflow that stands beside it
+abbrev pub flowed_in : Inflow → Result Inflow Refusal → Flowed
+flowed_in left (Ok next) = record { answer = 0; flow = next }
+flowed_in left (Err refusal) = record { answer = number_of refusal; flow = left }
+
+abbrev pub finished_in : Inflow → Result Read Refusal → Reading
+finished_in left (Ok r) = record { answer = 0; table = r.table; refused = r.refused; broken = r.broken }
+finished_in left (Err refusal) = record { answer = number_of refusal; table = left.table; refused = left.refused; broken = false }
 
 -- an inflow that holds nothing
 abbrev pub fresh : Table → Inflow

@@ -11,7 +11,7 @@ pub const LONGEST: u64 = 600000;
 
 // What is known of one element: its outages with their minutes, and its stock: 0 none told, 1 pieces, 2 line in tenths of a kilometre.
 // The mark is a number and no enum, since a table may be lent with another mark, which is answered as unsound (element_cases, "mark 3").
-#[derive(Clone, Copy)]
+#[derive(Clone, Copy, Default)]
 pub struct Row {
     pub outages: u32,
     pub minutes: u64,
@@ -24,12 +24,7 @@ impl Row {
     pub fn none() -> Row
         ensures { result ≡ no_row }
     {
-        Row {
-            outages: 0,
-            minutes: 0,
-            stock: 0,
-            amount: 0,
-        }
+        Row::default()
     }
 
     // With one outage more, of so many minutes.

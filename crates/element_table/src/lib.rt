@@ -56,7 +56,7 @@ fn rows_within(rows: &[Row]) -> bool
 fn row_at(rows: &[Row], at: usize) -> Row
     ensures { result ≡ row_or rows.now at }
 {
-    rows.get(at).copied().unwrap_or(Row::none())
+    rows.get(at).copied().unwrap_or_default()
 }
 
 impl Table {

@@ -2,13 +2,13 @@
 #![tactic(auto)]
 
 ghost use Rattle.std.specs.Prelude.{◌≡◌, ◌+◌, ◌*◌, ◌≤◌, length};
-ghost use Rattle.fields.specs.Fields.{sheet_in, head_in, simple_in, step_at};
+ghost use Rattle.fields.specs.Fields.{no_sheet, sheet_in, head_in, simple_in, step_at};
 ghost use Rattle.fields.specs.Tests.{in_range, head_listed};
 
 use annex::{Simple, Step};
 use codes::LEVELS;
 
-// The year sheet, or none: then all is zero.
+// The year sheet, or none: then all is zero. This is no Option: a sheet that C callers lend may have numbers without being there, and is answered 1.
 #[derive(Clone, Copy)]
 pub struct Sheet {
     pub there: bool,
@@ -81,12 +81,12 @@ pub fn step_at(s: &[u8], at: usize) -> Step
 impl Sheet {
     // No sheet.
     pub fn none() -> Sheet
-        ensures { result ≡ Rattle.fields.specs.Fields.no_sheet }
+        ensures { result ≡ no_sheet }
     {
         Sheet {
             there: false,
             year: 0,
-            totals: [0, 0, 0],
+            totals: [0; LEVELS],
         }
     }
 
@@ -94,12 +94,10 @@ impl Sheet {
     pub fn in_range(self) -> bool
         ensures { result ≡ in_range self }
     {
-        let n = self.totals;
-        (2000 <= self.year)
-            & (self.year <= 2099)
-            & (n[0] <= codes::MOST_CUSTOMERS)
-            & (n[1] <= codes::MOST_CUSTOMERS)
-            & (n[2] <= codes::MOST_CUSTOMERS)
+        (2000..=2099).contains(&self.year)
+            & (self.totals[0] <= codes::MOST_CUSTOMERS)
+            & (self.totals[1] <= codes::MOST_CUSTOMERS)
+            & (self.totals[2] <= codes::MOST_CUSTOMERS)
     }
 }
 

@@ -1,8 +1,8 @@
 -- What a verdict does to the cells: each cell of its row grows by its own level's figures, and no other cell changes. Assumes nothing.
-use Prim.Native.Nat.{ℕ, ◌+◌, ◌<◌}
+use Prim.Native.Nat.{ℕ, zero, suc, ◌+◌, ◌<◌, ◌≤◌}
 use mathlib.Core.Path.{◌≡◌, refl, ap, ◌∙◌, sym, subst}
 use mathlib.Core.Logic.{◌≢◌}
-use mathlib.Core.List.{List, [], ◌∷◌}
+use mathlib.Core.List.{List}
 use mathlib.Core.Bool.{Bool, true, cond}
 use lib.ListN.{length, get_or, set, length-set, get_or-replicate}
 use lib.Seq.{get_or-set_same, get_or-set_other, set-get_or}
@@ -12,7 +12,7 @@ use native.Mathlib.Omega.{arith}
 use borrow.Author.Tests.{eqb-true, eqb-false}
 use Rattle.base.specs.Lists.{every}
 use Rattle.base.proofs.TestLaws.{Tested, holds, fails, test}
-use Rattle.base.proofs.ListLaws.{every_set, three}
+use Rattle.base.proofs.ListLaws.{every_set}
 use Rattle.codes.specs.Codes.{rows, levels}
 use Rattle.annex.specs.declared.Figures.{Figures}
 use Rattle.annex.specs.Figures.{customers, half_minutes, nothing}
@@ -23,7 +23,7 @@ use Rattle.verdict.specs.Verdict.{Verdict, refused_with, sheet_verdict}
 use Rattle.ledger.specs.declared.Cell.{Cell}
 use Rattle.ledger.specs.declared.TypeRow.{TypeRow}
 use Rattle.ledger.specs.declared.Ledger.{Ledger}
-use Rattle.ledger.specs.Ledger.{no_cell, no_row, empty_row, empty_ledger, held, cell_by, held_in, grown_by, grown_at, grown_levels, grown_row, added, Shaped}
+use Rattle.ledger.specs.Ledger.{no_cell, no_row, empty_row, empty_ledger, held, cell_by, held_in, grown_by, grown_at, grown_row, added, Shaped}
 
 -- ---- a cell
 
@@ -57,9 +57,15 @@ module _ (f : Figures) (cells : List Cell) where
   at_other : (h k : ℕ) → k ≢ h → get_or (grown_at h f cells) k no_cell ≡ get_or cells k no_cell
   at_other h k n = get_or-set_other cells h k _ no_cell n
 
--- three cells, each of them grown
-pub grown_is : (f : Figures) (c : List Cell) → length c ≡ levels → grown_with f (get_or c 0 no_cell) 0 ∷ grown_with f (get_or c 1 no_cell) 1 ∷ grown_with f (get_or c 2 no_cell) 2 ∷ [] ≡ grown_levels f c
-grown_is f c n = subst (λ d. grown_with f (get_or d 0 no_cell) 0 ∷ grown_with f (get_or d 1 no_cell) 1 ∷ grown_with f (get_or d 2 no_cell) 2 ∷ [] ≡ grown_levels f d) (three no_cell c n) refl
+-- the cells of a row of which those below a level are grown
+abbrev pub grown_below : ℕ → Figures → List Cell → List Cell
+grown_below zero f cells = cells
+grown_below (suc h) f cells = grown_at h f (grown_below h f cells)
+
+-- those from the level on are as they were
+pub below_untouched : (n h : ℕ) (f : Figures) (cells : List Cell) → n ≤ h → get_or (grown_below n f cells) h no_cell ≡ get_or cells h no_cell
+below_untouched zero h f cells l = refl
+below_untouched (suc n) h f cells l = at_other f (grown_below n f cells) n h (λ e. omega arith) ∙ below_untouched n h f cells (omega arith)
 
 module _ (r : TypeRow) (f : Figures) where
   abbrev one : List Cell

@@ -6,7 +6,7 @@ ghost use Rattle.std.specs.Prelude.{◌≡◌, ◌&&◌, ◌≤◌, ◌*◌};
 ghost use Rattle.base.specs.Lists.{every};
 ghost use Rattle.annex.specs.Figure.{Off, Halves, most_of};
 ghost use Rattle.verdict.specs.Judged.{accepted_verdict};
-ghost use Rattle.ledger.specs.Ledger.{empty_row, empty_ledger, grown_by, grown_levels, grown_row, added};
+ghost use Rattle.ledger.specs.Ledger.{empty_row, empty_ledger, grown_by, grown_row, added};
 ghost use Rattle.ledger.specs.Sound.{cell_within, row_within, sheet_sound, sound_ledger};
 ghost use Rattle.ledger.specs.Inside.{Spare, SpareRow, Small, Fits};
 ghost use Rattle.ledger.specs.Take.{taken_in, taken_of, map_after};
@@ -63,25 +63,15 @@ impl Cell {
     }
 }
 
-// The cells of a row, each with its own level's figures of one event more.
-fn grown_levels(c: [Cell; LEVELS], figures: Figures) -> [Cell; LEVELS]
-    requires { SpareRow c × Small figures }
-    ensures { result ≡ grown_levels figures c }
+// Whether each of a row's cells is within the bounds that so many events set. Every cell is tested: that costs less than stopping at the first that is not.
+fn levels_within(levels: [Cell; LEVELS], events: u16) -> bool
+    ensures { result ≡ every (cell_within events) levels }
 {
-    let n = figures.customers;
-    let h = figures.halves;
-    [
-        c[0].grown(n[0], h[0]),
-        c[1].grown(n[1], h[1]),
-        c[2].grown(n[2], h[2]),
-    ]
-}
-
-// Whether each of a row's cells is within the bounds that so many events set.
-fn levels_within(c: [Cell; LEVELS], events: u16) -> bool
-    ensures { result ≡ every (cell_within events) c }
-{
-    c[0].within(events) & c[1].within(events) & c[2].within(events)
+    let mut ok = true;
+    for cell in &levels {
+        ok &= cell.within(events);
+    }
+    ok
 }
 
 impl TypeRow {
@@ -97,14 +87,18 @@ impl TypeRow {
         }
     }
 
-    // The row with the figures of one event more.
-    pub fn grown(self, figures: Figures) -> TypeRow
+    // The row with the figures of one event more: each level's cell with its own.
+    pub fn grown(mut self, figures: Figures) -> TypeRow
         requires { SpareRow self.levels × Small figures }
         ensures { result ≡ grown_row self figures }
     {
-        TypeRow {
-            levels: grown_levels(self.levels, figures),
+        for level in 0..LEVELS {
+            self.levels[level] = self.levels[level].grown(
+                figures.customers[level],
+                figures.halves[level],
+            );
         }
+        self
     }
 
     fn within(self, events: u16) -> bool
@@ -119,10 +113,8 @@ fn rows_within(rows: [TypeRow; ROWS], events: u16) -> bool
     ensures { result ≡ every (row_within events) rows }
 {
     let mut ok = true;
-    let mut i = 0;
-    while i < ROWS {
-        ok = ok & rows[i].within(events);
-        i += 1;
+    for row in &rows {
+        ok &= row.within(events);
     }
     ok
 }
@@ -131,8 +123,11 @@ fn rows_within(rows: [TypeRow; ROWS], events: u16) -> bool
 fn sheet_sound(sheet: Sheet, events: u16) -> bool
     ensures { result ≡ sheet_sound sheet events }
 {
-    let n = sheet.totals;
-    let zero = (sheet.year == 0) & (n[0] == 0) & (n[1] == 0) & (n[2] == 0) & (events == 0);
+    let zero = (sheet.year == 0)
+        & (sheet.totals[0] == 0)
+        & (sheet.totals[1] == 0)
+        & (sheet.totals[2] == 0)
+        & (events == 0);
     (sheet.there & sheet.in_range()) | (!sheet.there & zero)
 }
 

@@ -26,15 +26,15 @@ pub fn is_above(counts: [u32; LEVELS], level: u8) -> bool
 pub fn figures_exceed(figures: Figures, totals: [u32; LEVELS]) -> bool
     ensures { result ≡ exceeding_figures totals figures }
 {
-    let c = figures.customers;
-    ((totals[0] as u64) < c[0].0) | ((totals[1] as u64) < c[1].0) | ((totals[2] as u64) < c[2].0)
+    ((totals[0] as u64) < figures.customers[0].0)
+        | ((totals[1] as u64) < figures.customers[1].0)
+        | ((totals[2] as u64) < figures.customers[2].0)
 }
 
 pub fn figures_above(figures: Figures, level: u8) -> bool
     ensures { result ≡ figures_above level figures }
 {
-    let c = figures.customers;
-    ((level < 1) & (0 < c[1].0)) | ((level < 2) & (0 < c[2].0))
+    ((level < 1) & (0 < figures.customers[1].0)) | ((level < 2) & (0 < figures.customers[2].0))
 }
 
 // Whether a step's time is before the one before it, or over 600,000.
@@ -61,7 +61,7 @@ pub fn is_simple_late(e: Simple, typ: u8) -> bool
 pub fn is_none_then_some(e: Simple) -> bool
     ensures { result ≡ none_then_some e }
 {
-    let a = e.n1;
-    let b = e.n2;
-    ((a[0] == 0) & (0 < b[0])) | ((a[1] == 0) & (0 < b[1])) | ((a[2] == 0) & (0 < b[2]))
+    ((e.n1[0] == 0) & (0 < e.n2[0]))
+        | ((e.n1[1] == 0) & (0 < e.n2[1]))
+        | ((e.n1[2] == 0) & (0 < e.n2[2]))
 }

@@ -14,6 +14,14 @@ use refusals::Refusal;
 use verdict::Accepted;
 use walk::Walk;
 
+// What a record is judged under: the ledger's sheet and number of events, and the map of used numbers.
+#[derive(Clone, Copy)]
+struct Held<'a> {
+    sheet: Sheet,
+    map: &'a [u8],
+    events: u16,
+}
+
 // A record of kind 1.
 fn judge_sheet(bytes: &[u8], sheet: Sheet) -> Result<Accepted, Refusal>
     ensures { judged sheet result ≡ verdict_at 1 bytes.now sheet [] 0 }
@@ -39,26 +47,20 @@ fn judge_sheet(bytes: &[u8], sheet: Sheet) -> Result<Accepted, Refusal>
 }
 
 // Whether the rules let a simple event in: the smallest number that applies refuses it. Each test is made only where none before it applies.
-fn admit_simple(
-    head: Head,
-    event: Simple,
-    sheet: Sheet,
-    map: &[u8],
-    events: u16,
-) -> Result<(), Refusal>
-    ensures { answer_in result ≡ first (simple_tests head event sheet map.now events) }
+fn admit_simple(head: Head, event: Simple, held: Held) -> Result<(), Refusal>
+    ensures { answer_in result ≡ first (simple_tests head event held.entry.sheet held.entry.map.now held.entry.events) }
 {
     let level = codes::level_of(head.voltage);
-    if !sheet.there {
+    if !held.sheet.there {
         return Err(Refusal::Sheet);
     }
     if !head.listed() {
         return Err(Refusal::Code);
     }
-    if (annex::minutes_in(sheet.year) <= head.t0) | limits::is_simple_late(event, head.typ) {
+    if (annex::minutes_in(held.sheet.year) <= head.t0) | limits::is_simple_late(event, head.typ) {
         return Err(Refusal::Time);
     }
-    if limits::exceeds(event.n1, sheet.totals) | limits::exceeds(event.n2, sheet.totals) {
+    if limits::exceeds(event.n1, held.sheet.totals) | limits::exceeds(event.n2, held.sheet.totals) {
         return Err(Refusal::Count);
     }
     if limits::is_above(event.n1, level) | limits::is_above(event.n2, level) {
@@ -67,66 +69,60 @@ fn admit_simple(
     if limits::is_none_then_some(event) {
         return Err(Refusal::NoneThenSome);
     }
-    if used_numbers::is_marked(map, head.number) {
+    if used_numbers::is_marked(held.map, head.number) {
         return Err(Refusal::Used);
     }
-    if codes::MOST_EVENTS <= events {
+    if codes::MOST_EVENTS <= held.events {
         return Err(Refusal::Full);
     }
     Ok(())
 }
 
 // A record of kind 2.
-fn judge_simple(bytes: &[u8], sheet: Sheet, map: &[u8], events: u16) -> Result<Accepted, Refusal>
-    ensures { judged sheet result ≡ verdict_at 2 bytes.now sheet map.now events }
+fn judge_simple(bytes: &[u8], held: Held) -> Result<Accepted, Refusal>
+    ensures { judged held.entry.sheet result ≡ verdict_at 2 bytes.now held.entry.sheet held.entry.map.now held.entry.events }
 {
     if bytes.len() != 53 {
         return Err(Refusal::Length);
     }
     let head = fields::head_of(bytes);
     let event = fields::simple_of(bytes);
-    admit_simple(head, event, sheet, map, events)?;
-    Ok(verdict::accept(sheet, head, event.t3, event.figures()))
+    admit_simple(head, event, held)?;
+    Ok(verdict::accept(held.sheet, head, event.t3, event.figures()))
 }
 
 // Whether the rules let a stepped event in, by the walk over its steps.
-fn admit_stepped(
-    head: Head,
-    walk: Walk,
-    sheet: Sheet,
-    map: &[u8],
-    events: u16,
-) -> Result<(), Refusal>
-    ensures { answer_in result ≡ first (stepped_tests head walk sheet map.now events) }
+fn admit_stepped(head: Head, walk: Walk, held: Held) -> Result<(), Refusal>
+    ensures { answer_in result ≡ first (stepped_tests head walk held.entry.sheet held.entry.map.now held.entry.events) }
 {
     let figures = walk.course.figures;
-    if !sheet.there {
+    if !held.sheet.there {
         return Err(Refusal::Sheet);
     }
     if !head.listed() {
         return Err(Refusal::Code);
     }
-    if (annex::minutes_in(sheet.year) <= head.t0) | walk.late {
+    if (annex::minutes_in(held.sheet.year) <= head.t0) | walk.late {
         return Err(Refusal::Time);
     }
-    if limits::figures_exceed(figures, sheet.totals) {
+    if limits::figures_exceed(figures, held.sheet.totals) {
         return Err(Refusal::Count);
     }
     if limits::figures_above(figures, codes::level_of(head.voltage)) {
         return Err(Refusal::Level);
     }
-    if used_numbers::is_marked(map, head.number) {
+    if used_numbers::is_marked(held.map, head.number) {
         return Err(Refusal::Used);
     }
-    if codes::MOST_EVENTS <= events {
+    if codes::MOST_EVENTS <= held.events {
         return Err(Refusal::Full);
     }
     Ok(())
 }
 
 // A record of kind 3.
-fn judge_stepped(bytes: &[u8], sheet: Sheet, map: &[u8], events: u16) -> Result<Accepted, Refusal>
-    ensures { judged sheet result ≡ verdict_at 3 bytes.now sheet map.now events }
+fn judge_stepped(bytes: &[u8], held: Held) -> Result<Accepted, Refusal>
+    ensures { judged held.entry.sheet result ≡ verdict_at 3 bytes.now held.entry.sheet held.entry.map.now held.entry.events }
 {
     let steps = wire::byte_at(bytes, 13);
     let size = 14 + 16 * steps as usize;
@@ -135,8 +131,8 @@ fn judge_stepped(bytes: &[u8], sheet: Sheet, map: &[u8], events: u16) -> Result<
     }
     let head = fields::head_of(bytes);
     let walk = walk::walk_of(bytes, steps, head.t0);
-    admit_stepped(head, walk, sheet, map, events)?;
-    Ok(verdict::accept(sheet, head, walk.course.last, walk.course.figures))
+    admit_stepped(head, walk, held)?;
+    Ok(verdict::accept(held.sheet, head, walk.course.last, walk.course.figures))
 }
 
 // The verdict on a record at the book entry, for a sheet, a map and a number of events in the ledger.
@@ -146,10 +142,11 @@ pub fn judge(bytes: &[u8], sheet: Sheet, map: &[u8], events: u16) -> Result<Acce
     if !wire::is_framed(bytes) {
         return Err(Refusal::Frame);
     }
+    let held = Held { sheet, map, events };
     match wire::kind_of(bytes) {
         1 => judge_sheet(bytes, sheet),
-        2 => judge_simple(bytes, sheet, map, events),
-        3 => judge_stepped(bytes, sheet, map, events),
+        2 => judge_simple(bytes, held),
+        3 => judge_stepped(bytes, held),
         _ => Err(Refusal::Kind),
     }
 }

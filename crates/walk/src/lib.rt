@@ -31,8 +31,7 @@ impl Walk {
         requires { Timely self.course }
         ensures { result ≡ walked_step self step }
     {
-        let course = self.course;
-        let late = self.late | limits::is_late(step.time, course.last);
+        let late = self.late | limits::is_late(step.time, self.course.last);
         if late {
             return Walk {
                 late: true,
@@ -41,7 +40,7 @@ impl Walk {
         }
         Walk {
             late: false,
-            course: course.with(step),
+            course: self.course.with(step),
         }
     }
 }
@@ -51,13 +50,9 @@ pub fn walk_of(s: &[u8], steps: u8, t0: u32) -> Walk
     requires { 14 + 16 * steps ≤ length s.now }
     ensures { result ≡ walked (set_out t0) (steps_from s.now steps 14) }
 {
-    let mut w = Walk::begin(t0);
-    let mut at: usize = 14;
-    let mut left = steps;
-    while 0 < left {
-        w = w.with(fields::step_at(s, at));
-        at += 16;
-        left -= 1;
+    let mut walk = Walk::begin(t0);
+    for i in 0..steps {
+        walk = walk.with(fields::step_at(s, 14 + 16 * i as usize));
     }
-    w
+    walk
 }

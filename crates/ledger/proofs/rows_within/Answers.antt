@@ -1,4 +1,4 @@
--- Invariant: the rows seen so far are as `ok` says, so that `ok` and the rest are the whole test. Assumes nothing.
+-- What was tested so far, and what is left, make the whole test. Assumes nothing.
 use mathlib.Core.Path.{sym, ◌∙◌}
 use Prim.Native.Nat.{◌+◌}
 use mathlib.Core.Bool.{◌&&◌}
@@ -10,19 +10,16 @@ use Rattle.ledger.specs.Sound.{row_within}
 use borrow.Author.Rules.{rules}
 use Rattle.ledger.proofs.rows_within.Goals as goal
 
-pub loop-i-preserved : goal.loop-i-preserved
-loop-i-preserved c =
+pub loop-row-preserved : goal.loop-row-preserved
+loop-row-preserved c =
     let a = c.args in
-    let l = c.loop-i in (
-      search rules,
-      l.invariant.1 ∙
-          every_more (row_within a.events) no_row l.i l.ok a.rows (search rules) ∙
-          (λ j. l.ok && sym c.within-ok.ensures j && every (row_within a.events) (drop (l.i + 1) a.rows)),
-      search rules,
-    )
+    let l = c.loop-row in
+    l.invariant ∙
+    every_more (row_within a.events) no_row l.row-index l.ok a.rows (search rules) ∙
+    (λ j. l.ok && sym c.within-ok.ensures j && every (row_within a.events) (drop (l.row-index + 1) a.rows))
 
 pub returns : goal.returns
 returns c =
     let a = c.args in
-    let l = c.loop-i in
-    sym (l.invariant.1 ∙ every_ends (row_within a.events) l.i l.ok a.rows (search rules))
+    let l = c.loop-row in
+    sym (l.invariant ∙ every_ends (row_within a.events) l.row-index l.ok a.rows (search rules))

@@ -18,38 +18,38 @@ pub returns-then-bytes-ne53 : goal.returns-then-bytes-ne53
 returns-then-bytes-ne53 c =
     let a = c.args in
     sym
-    (refused_by 2 a.bytes.now a.sheet a.map.now a.events 4 (refl, ap not (ne_eqb _ _ c.if-bytes-ne53.true)) (eqb-false 4 0 refl))
+    (refused_by 2 a.bytes.now a.held.sheet a.held.map.now a.held.events 4 (refl, ap not (ne_eqb _ _ c.if-bytes-ne53.true)) (eqb-false 4 0 refl))
 
 pub returns-in_err-admit_simple : goal.returns-in_err-admit_simple
 returns-in_err-admit_simple c =
     let a = c.args in
-    let answered : answer_in c.admit_simple.result ≡ answer_at 2 a.bytes.now a.sheet a.map.now a.events =
+    let answered : answer_in c.admit_simple.result ≡ answer_at 2 a.bytes.now a.held.sheet a.held.map.now a.held.events =
     c.admit_simple.ensures ∙
-    (λ i. first (simple_tests (c.head_of-head.ensures i) (c.simple_of-event.ensures i) a.sheet a.map.now a.events)) ∙
-    sym (simple_answer a.bytes.now a.sheet a.map.now a.events (ap not (eq-eqb _ _ c.if-bytes-ne53.false))) in
+    (λ i. first (simple_tests (c.head_of-head.ensures i) (c.simple_of-event.ensures i) a.held.sheet a.held.map.now a.held.events)) ∙
+    sym (simple_answer a.bytes.now a.held.sheet a.held.map.now a.held.events (ap not (eq-eqb _ _ c.if-bytes-ne53.false))) in
     let p = err_from_is_err_and c.from_residual.result c.from_residual.ensures.1 in
-    rw (p.1, p.2) (err_refuses 2 a.bytes.now a.sheet a.map.now a.events c.admit_simple.result answered _ (c.in_err-admit_simple.was))
+    rw (p.1, p.2) (err_refuses 2 a.bytes.now a.held.sheet a.held.map.now a.held.events c.admit_simple.result answered _ (c.in_err-admit_simple.was))
 
 pub figures-requires : goal.figures-requires
 figures-requires c =
     let a = c.args in
-    let answered : answer_in c.admit_simple.result ≡ answer_at 2 a.bytes.now a.sheet a.map.now a.events =
+    let answered : answer_in c.admit_simple.result ≡ answer_at 2 a.bytes.now a.held.sheet a.held.map.now a.held.events =
     c.admit_simple.ensures ∙
-    (λ i. first (simple_tests (c.head_of-head.ensures i) (c.simple_of-event.ensures i) a.sheet a.map.now a.events)) ∙
-    sym (simple_answer a.bytes.now a.sheet a.map.now a.events (ap not (eq-eqb _ _ c.if-bytes-ne53.false))) in
-    let z = ok_answers_0 2 a.bytes.now a.sheet a.map.now a.events c.admit_simple.result answered _ (c.in_ok-admit_simple.was) in
+    (λ i. first (simple_tests (c.head_of-head.ensures i) (c.simple_of-event.ensures i) a.held.sheet a.held.map.now a.held.events)) ∙
+    sym (simple_answer a.bytes.now a.held.sheet a.held.map.now a.held.events (ap not (eq-eqb _ _ c.if-bytes-ne53.false))) in
+    let z = ok_answers_0 2 a.bytes.now a.held.sheet a.held.map.now a.held.events c.admit_simple.result answered _ (c.in_ok-admit_simple.was) in
     subst⁻¹ InOrder c.simple_of-event.ensures
-    (simple_ordered (head_in a.bytes.now).typ (simple_in a.bytes.now) (simple_timely a.bytes.now a.sheet a.map.now a.events z))
+    (simple_ordered (head_in a.bytes.now).typ (simple_in a.bytes.now) (simple_timely a.bytes.now a.held.sheet a.held.map.now a.held.events z))
 
 pub returns : goal.returns
 returns c =
     let a = c.args in
-    let answered : answer_in c.admit_simple.result ≡ answer_at 2 a.bytes.now a.sheet a.map.now a.events =
+    let answered : answer_in c.admit_simple.result ≡ answer_at 2 a.bytes.now a.held.sheet a.held.map.now a.held.events =
     c.admit_simple.ensures ∙
-    (λ i. first (simple_tests (c.head_of-head.ensures i) (c.simple_of-event.ensures i) a.sheet a.map.now a.events)) ∙
-    sym (simple_answer a.bytes.now a.sheet a.map.now a.events (ap not (eq-eqb _ _ c.if-bytes-ne53.false))) in
-    let z = ok_answers_0 2 a.bytes.now a.sheet a.map.now a.events c.admit_simple.result answered _ (c.in_ok-admit_simple.was) in
+    (λ i. first (simple_tests (c.head_of-head.ensures i) (c.simple_of-event.ensures i) a.held.sheet a.held.map.now a.held.events)) ∙
+    sym (simple_answer a.bytes.now a.held.sheet a.held.map.now a.held.events (ap not (eq-eqb _ _ c.if-bytes-ne53.false))) in
+    let z = ok_answers_0 2 a.bytes.now a.held.sheet a.held.map.now a.held.events c.admit_simple.result answered _ (c.in_ok-admit_simple.was) in
     let e = c.simple_of-event.ensures in
     c.accept.ensures ∙
-    (λ i. event_verdict a.sheet (c.head_of-head.ensures i) (e i).t3 ((c.figures.ensures ∙ ap simple_figures e) i)) ∙
-    sym (at_accepted 2 a.bytes.now a.sheet a.map.now a.events z)
+    (λ i. event_verdict a.held.sheet (c.head_of-head.ensures i) (e i).t3 ((c.figures.ensures ∙ ap simple_figures e) i)) ∙
+    sym (at_accepted 2 a.bytes.now a.held.sheet a.held.map.now a.held.events z)

@@ -26,7 +26,7 @@ returns-then-bytes-steps c =
     (ltb (length s) 14 || eqb n 0 || ltb 64 n || not (eqb (length s) (14 + 16 * n))) ≡ length_wrong 3 s = let s = c.args.bytes.now in
     λ i. ltb (length s) 14 || eqb (c.byte_at-steps.ensures i) 0 || ltb 64 (c.byte_at-steps.ensures i) || not (eqb (length s) (14 + 16 * c.byte_at-steps.ensures i)) in
     let a = c.args in
-    sym (refused_by 3 a.bytes.now a.sheet a.map.now a.events 4 (refl, sym length-is ∙ c.if-bytes-steps.true) (eqb-false 4 0 refl))
+    sym (refused_by 3 a.bytes.now a.held.sheet a.held.map.now a.held.events 4 (refl, sym length-is ∙ c.if-bytes-steps.true) (eqb-false 4 0 refl))
 
 pub returns-in_err-admit_stepped : goal.returns-in_err-admit_stepped
 returns-in_err-admit_stepped c =
@@ -37,12 +37,12 @@ returns-in_err-admit_stepped c =
     let walk_is : let s = c.args.bytes.now in c.walk_of-walk.result ≡ walked (set_out (head_in s).t0) (steps_in s) = let s = c.args.bytes.now in
     c.walk_of-walk.ensures ∙ (λ i. walked (set_out (c.head_of-head.ensures i).t0) (steps_from s (c.byte_at-steps.ensures i) 14)) in
     let a = c.args in
-    let answered : answer_in c.admit_stepped.result ≡ answer_at 3 a.bytes.now a.sheet a.map.now a.events =
+    let answered : answer_in c.admit_stepped.result ≡ answer_at 3 a.bytes.now a.held.sheet a.held.map.now a.held.events =
     c.admit_stepped.ensures ∙
-    (λ i. first (stepped_tests (c.head_of-head.ensures i) (walk_is i) a.sheet a.map.now a.events)) ∙
-    sym (stepped_answer a.bytes.now a.sheet a.map.now a.events (sym length-is ∙ c.if-bytes-steps.false)) in
+    (λ i. first (stepped_tests (c.head_of-head.ensures i) (walk_is i) a.held.sheet a.held.map.now a.held.events)) ∙
+    sym (stepped_answer a.bytes.now a.held.sheet a.held.map.now a.held.events (sym length-is ∙ c.if-bytes-steps.false)) in
     let p = err_from_is_err_and c.from_residual.result c.from_residual.ensures.1 in
-    rw (p.1, p.2) (err_refuses 3 a.bytes.now a.sheet a.map.now a.events c.admit_stepped.result answered _ (c.in_err-admit_stepped.was))
+    rw (p.1, p.2) (err_refuses 3 a.bytes.now a.held.sheet a.held.map.now a.held.events c.admit_stepped.result answered _ (c.in_err-admit_stepped.was))
 
 pub returns : goal.returns
 returns c =
@@ -53,16 +53,16 @@ returns c =
     let walk_is : let s = c.args.bytes.now in c.walk_of-walk.result ≡ walked (set_out (head_in s).t0) (steps_in s) = let s = c.args.bytes.now in
     c.walk_of-walk.ensures ∙ (λ i. walked (set_out (c.head_of-head.ensures i).t0) (steps_from s (c.byte_at-steps.ensures i) 14)) in
     let a = c.args in
-    let answered : answer_in c.admit_stepped.result ≡ answer_at 3 a.bytes.now a.sheet a.map.now a.events =
+    let answered : answer_in c.admit_stepped.result ≡ answer_at 3 a.bytes.now a.held.sheet a.held.map.now a.held.events =
     c.admit_stepped.ensures ∙
-    (λ i. first (stepped_tests (c.head_of-head.ensures i) (walk_is i) a.sheet a.map.now a.events)) ∙
-    sym (stepped_answer a.bytes.now a.sheet a.map.now a.events (sym length-is ∙ c.if-bytes-steps.false)) in
+    (λ i. first (stepped_tests (c.head_of-head.ensures i) (walk_is i) a.held.sheet a.held.map.now a.held.events)) ∙
+    sym (stepped_answer a.bytes.now a.held.sheet a.held.map.now a.held.events (sym length-is ∙ c.if-bytes-steps.false)) in
     let s = a.bytes.now in
     let t0 = (head_in s).t0 in
-    let z = ok_answers_0 3 s a.sheet a.map.now a.events c.admit_stepped.result answered _ (c.in_ok-admit_stepped.was) in
-    let timely = stepped_timely s a.sheet a.map.now a.events z in
+    let z = ok_answers_0 3 s a.held.sheet a.held.map.now a.held.events c.admit_stepped.result answered _ (c.in_ok-admit_stepped.was) in
+    let timely = stepped_timely s a.held.sheet a.held.map.now a.held.events z in
     let last = ap (λ (w : Walk). w.course.last) walk_is ∙ walked_last t0 (steps_in s) timely in
     let figures = ap (λ (w : Walk). w.course.figures) walk_is ∙ walked_figures t0 (steps_in s) timely in
     c.accept.ensures ∙
-    (λ i. event_verdict a.sheet (c.head_of-head.ensures i) (last i) (figures i)) ∙
-    sym (at_accepted 3 s a.sheet a.map.now a.events z)
+    (λ i. event_verdict a.held.sheet (c.head_of-head.ensures i) (last i) (figures i)) ∙
+    sym (at_accepted 3 s a.held.sheet a.held.map.now a.held.events z)
