@@ -27,9 +27,10 @@
 ghost use Rattle.std.specs.Prelude.{◌≡◌, length};
 ghost use Rattle.wire.specs.Book.{which_at, record_at, after_at};
 ghost use Rattle.wire.specs.Cut.{records_of, stop_from, ends_by};
+ghost use Rattle.reader.specs.Reader.{which_in, bytes_in};
 
 use ledger::{Cell, Ledger};
-use reader::Reader;
+use reader::{Broken, Reader};
 
 // ---- what is printed
 
@@ -81,7 +82,28 @@ fn wrong(out: &impl Print, what: &[u8]) {
 
 // ---- what a reader answers
 
-// What a reader at an offset answers, the size of its record and the offset of the answered reader, and what that one answers.
+// An answer of a reader as a number: 0 a record, 1 the end, 2 a broken length.
+fn which_of(answer: Result<Option<&[u8]>, Broken>) -> u8
+    ensures { result ≡ which_in answer.entry }
+{
+    match answer {
+        Ok(Some(_)) => 0,
+        Ok(None) => 1,
+        Err(Broken) => 2,
+    }
+}
+
+// The size of the record that it is; 0 where there is none.
+fn size_of(answer: Result<Option<&[u8]>, Broken>) -> usize
+    ensures { result ≡ length (bytes_in answer.entry) }
+{
+    match answer {
+        Ok(Some(record)) => record.len(),
+        Ok(None) | Err(Broken) => 0,
+    }
+}
+
+// What a reader at an offset answers, the size of its record, the offset where the reader then stands, and what it answers there.
 #[derive(Drop)]
 struct Asked {
     which: u8,
@@ -90,17 +112,18 @@ struct Asked {
     again: u8,
 }
 
-// Asks a reader at an offset, and then the reader that was answered.
+// Asks a reader at an offset, and then once more.
 fn first_from(book: &[u8], at: usize) -> Asked
     ensures { (result.which ≡ which_at book.now at) × (result.size ≡ length (record_at book.now at)) × (result.at ≡ after_at book.now at) × (result.again ≡ which_at book.now (after_at book.now at)) }
 {
-    let a = Reader::from(book, at).next();
-    let b = a.reader.next();
+    let mut reader = Reader::from(book, at);
+    let answer = reader.next();
+    let stop = reader.at;
     Asked {
-        which: a.which,
-        size: a.bytes.len(),
-        at: a.reader.at,
-        again: b.which,
+        which: which_of(answer),
+        size: size_of(answer),
+        at: stop,
+        again: which_of(reader.next()),
     }
 }
 
@@ -123,16 +146,26 @@ struct Counted {
 fn count_records(book: &[u8]) -> Counted
     ensures { (result.count ≡ length (records_of book.now)) × (result.at ≡ stop_from book.now 0) × (result.which ≡ ends_by book.now) }
 {
-    let mut n: usize = 0;
-    let mut a = Reader::new(book).next();
-    while a.which == 0 {
-        a = a.reader.next();
-        n += 1;
-    }
-    Counted {
-        count: n,
-        at: a.reader.at,
-        which: a.which,
+    let mut reader = Reader::new(book);
+    let mut count: usize = 0;
+    'records: loop {
+        match reader.next() {
+            Ok(Some(_)) => count += 1,
+            Ok(None) => {
+                return Counted {
+                    count,
+                    at: reader.at,
+                    which: 1,
+                };
+            }
+            Err(Broken) => {
+                return Counted {
+                    count,
+                    at: reader.at,
+                    which: 2,
+                };
+            }
+        }
     }
 }
 
