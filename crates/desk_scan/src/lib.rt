@@ -54,8 +54,8 @@ impl Roll {
 
     // Enters the slot at an index: its number, as far as the numbers reach, and whether all slots so far are sound.
     #[tactic(auto, unfolding(crate::specs::Inside::rolled_slot))]
-    pub fn enter(&mut self, at: usize, slot: Slot)
-        ensures { self.new ≡ rolled_slot self.old at slot }
+    pub fn enter(&mut self, at: usize, slot: &Slot)
+        ensures { self.new ≡ rolled_slot self.old at slot.now }
     {
         if at < SLOTS {
             self.numbers[at] = slot.head.number;
