@@ -42,7 +42,7 @@ fn numbers_differ(table: &[u16; SLOTS]) -> bool
 }
 
 impl Roll {
-    // Before the first slot.
+    // Before the first slot: sound so far, which a default is not.
     pub fn none() -> Roll
         ensures { result ≡ no_roll }
     {

@@ -38,7 +38,7 @@ fn level_within(customers: Customers, halves: HalfMinutes, minutes: u32) -> bool
 }
 
 impl Slot {
-    // Zeros only.
+    // Zeros only. Written out, since a default of it would need one of each type in it and say no more.
     pub fn free() -> Slot
         ensures { result ≡ free_slot }
     {

@@ -1,7 +1,7 @@
 // The lines of a book's text: which items stand in a line of each sort, one after the other.
 #![tactic(auto, unfolding(crate::specs::Shape::event_item, crate::specs::Shape::item_of, crate::specs::Shape::most_of, crate::specs::Shape::whole_of, crate::specs::Shape::bar_before))]
 
-ghost use Rattle.std.specs.Prelude.{◌≡◌};
+ghost use Rattle.std.specs.Prelude.{◌≡◌, take};
 ghost use Rattle.text_items.specs.Shape.{item_of, most_of, whole_of, bar_before};
 ghost use Rattle.text_items.specs.Sorts.{sort_number, item_number};
 
@@ -31,6 +31,15 @@ pub struct Entry {
     pub kind: Sort,
     pub count: usize,
     pub values: [u32; 261],
+}
+
+impl Entry {
+    // The numbers of its items.
+    pub fn items(&self) -> &[u32]
+        ensures { result.now ≡ take self.now.count self.now.values }
+    {
+        &self.values[..self.count.min(261)]
+    }
 }
 
 // The sort of an item of an event's line.
