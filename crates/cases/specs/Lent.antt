@@ -1,5 +1,5 @@
 -- What the numbers of a line lend, and the bytes that a line of docs/TEXT.md stands for. Assumes nothing.
-use Rattle.std.specs.Prelude.{ℕ, ◌≤◌, ◌%◌, ◌^◌, List, [], ◌∷◌, cond, eqb, ltb, get_or, set, true, false}
+use Rattle.std.specs.Prelude.{ℕ, ◌+◌, List, [], ◌∷◌, cond, eqb, ltb, get_or, set}
 use Rattle.codes.specs.Codes.{rows}
 use Rattle.annex.specs.Figures.{customers, half_minutes}
 use Rattle.fields.specs.declared.Sheet.{Sheet}
@@ -11,8 +11,12 @@ use Rattle.pack.specs.Pack.{packed_of}
 use Rattle.text_parse.specs.Entry.{parsed_of}
 
 -- customers and half minutes
+abbrev pub cell_with : ℕ → ℕ → Cell
+cell_with n h = record { customers = customers n; halves = half_minutes h }
+
+-- the two numbers from a place on
 abbrev pub cell_lent : List ℕ → ℕ → Cell
-cell_lent v at = record { customers = customers (get_or v at 0); halves = half_minutes (get_or v (at + 1) 0) }
+cell_lent v at = cell_with (get_or v at 0) (get_or v (at + 1) 0)
 
 -- TYPE, then the cells of NN, VN and VVN
 abbrev pub row_lent : List ℕ → TypeRow

@@ -8,7 +8,7 @@ ghost use Rattle.codes.specs.Codes.{row_of};
 ghost use Rattle.pen.specs.Pen.{inked, spot, pushed_all};
 ghost use Rattle.text_items.specs.Sorts.{entry_in};
 ghost use Rattle.text_parse.specs.Entry.{parsed_of};
-ghost use Rattle.cases.specs.Lent.{row_lent, rows_lent, bytes_told};
+ghost use Rattle.cases.specs.Lent.{cell_with, row_lent, rows_lent, bytes_told};
 
 use annex::{Customers, HalfMinutes};
 use fields::Sheet;
@@ -227,7 +227,9 @@ pub fn put_frame(pen: &mut Pen, size: u32, kind: u32, n: u64)
 
 // ---- a ledger that is lent
 
-fn sheet_of(v: [u64; 12]) -> Sheet {
+fn sheet_of(v: [u64; 12]) -> Sheet
+    ensures { result.year ≡ get_or v 1 0 % 2 ^ 16 }
+{
     Sheet {
         there: v[0] == 1,
         year: pair(v[1]),
@@ -249,7 +251,9 @@ pub fn ledger_of(v: [u64; 12]) -> Ledger
     }
 }
 
-fn cell_of(customers: u64, halves: u64) -> Cell {
+fn cell_of(customers: u64, halves: u64) -> Cell
+    ensures { result ≡ cell_with customers halves }
+{
     Cell {
         customers: Customers(customers),
         halves: HalfMinutes(halves),
