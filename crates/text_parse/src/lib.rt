@@ -24,7 +24,8 @@ enum Next {
     End(usize),
 }
 
-// How the items of a line are read: by its sort, by the year of the sheet before it, 0 where there is none, and by its separator, 0 where it is no line of cells.
+// How the items of a line are read: by its sort, by the year of the sheet before it, 0 where there is none, and by its separator, 0 where it is no line of cells
+// (both as `parse` and `text_scan::separator_of` tell them).
 #[derive(Clone, Copy)]
 struct Items {
     kind: Sort,
