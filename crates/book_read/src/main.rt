@@ -65,17 +65,18 @@ fn refused(refusal: Refusal) -> &'static str {
 
 // What is said waits in a buffer before it is written out, and some of it may be lost.
 #[derive(Drop)]
-struct Page<'a, P: Print> {
-    rt: &'a P,
-    pen: Pen<'a>,
+struct Page<'r, 'o, P: Print> {
+    rt: &'r P,
+    pen: Pen<'o>,
     lost: bool,
 }
 
-impl<'a, P: Print> Page<'a, P> {
+impl<P: Print> Page<'_, '_, P> {
     // Writes out the bytes that wait.
     fn write_out(&mut self) {
-        let waiting = wire::part(&self.pen.out[..], 0, self.pen.at);
-        if self.rt.write_all(waiting).is_err() {
+        let rt = self.rt;
+        let at = self.pen.at;
+        if rt.write_all(wire::part(&self.pen.out[..], 0, at)).is_err() {
             self.lost = true;
         }
         self.pen.at = 0;
@@ -96,7 +97,8 @@ impl<'a, P: Print> Page<'a, P> {
     // A line, with times in a year.
     fn say_line(&mut self, entry: Entry, year: u16) {
         self.make_room();
-        self.pen.at = text_write::write_line(&mut self.pen.out[..], self.pen.at, entry, year);
+        let at = self.pen.at;
+        self.pen.at = text_write::write_line(&mut self.pen.out[..], at, entry, year);
         self.pen.put(b'\n');
     }
 
@@ -145,14 +147,14 @@ impl<'a, P: Print> Page<'a, P> {
 
 // A book being read: its ledger and its map of used numbers, the year that times are told in, and the page.
 #[derive(Drop)]
-struct Book<'a, P: Print> {
+struct Book<'r, 'o, P: Print> {
     ledger: Ledger,
     map: [u8; ledger::MAP],
     year: u16,
-    page: Page<'a, P>,
+    page: Page<'r, 'o, P>,
 }
 
-impl<'a, P: Print> Book<'a, P> {
+impl<P: Print> Book<'_, '_, P> {
     // One record: its answer, and its line.
     fn take_record(&mut self, record: &[u8]) {
         match self.ledger.take(&mut self.map, record) {
