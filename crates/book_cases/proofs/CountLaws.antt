@@ -1,5 +1,9 @@
 -- How an asking that counts goes on: how many records were answered before an offset, and what is still to be answered from there. Assumes nothing.
-use Rattle.std.proofs.Common.{◌≡◌, ℕ, ◌+◌, ◌-◌, ◌<◌, ◌≤◌, not, T, eqb, List, ◌∷◌, length, sym, refl, ap, ◌∙◌, subst, arith, T_not}
+use Rattle.std.proofs.Common.{◌≡◌, ℕ, ◌+◌, ◌-◌, ◌<◌, ◌≤◌, List, ◌∷◌, length, sym, refl, ap, ◌∙◌, subst, arith}
+use Rattle.std.specs.Prelude.{Result, Option, Ok, Some}
+use denote.Ref.{Bor}
+use Rattle.reader.specs.declared.Broken.{Broken}
+use Rattle.reader.specs.Reader.{which_in}
 use Rattle.wire.specs.Book.{which_at, record_at, after_at}
 use Rattle.wire.specs.Cut.{records_of, records_from, stop_from, ends_by}
 use Rattle.wire.proofs.CutLaws.{records_is, passed, halted}
@@ -35,6 +39,22 @@ module _ (book : List ℕ) where
       let e : at ≡ stop_from book 0 = sym q.1 ∙ c.1 in
       (omega (arith, l, m, c.0), (same_reader book at h).1 ∙ e, ap (which_at book) e)
 
--- a number that the test finds other than 0 is not 0
-pub unsame : (a : ℕ) → T (not (eqb a 0)) → a ≡ 0 → ⊥
-unsame a h z = T_not (eqb a 0) h (subst (λ (k : ℕ). T (eqb k 0)) (sym z) tt)
+  -- where a record is answered, fewer than all are counted
+  pub counted_fewer : (n at : ℕ) → Come n at → which_at book at ≡ 0 → n < length (records_from book 0)
+  counted_fewer n at c h = let l = ap length (passed book at h).0 in omega (arith, l, c.0)
+
+-- where the answer is a record, a record stands in the book that the reader has
+pub record_there : (book rb : List ℕ) (at : ℕ) (r : Result (Option (Bor (List ℕ))) Broken) (o : Option (Bor (List ℕ))) (x : Bor (List ℕ))
+    → r ≡ Ok o → o ≡ Some x → which_in r ≡ which_at rb at → rb ≡ book → which_at book at ≡ 0
+record_there book rb at r o x e g w same =
+    let told : which_in r ≡ 0 = ap which_in e ∙ ap (λ (p : Option (Bor (List ℕ))). which_in (Ok p)) g in
+    subst (λ (b : List ℕ). which_at b at ≡ 0) same (sym w ∙ told)
+
+-- and where it is none, all are counted
+pub ended : (book rb : List ℕ) (n at stop which : ℕ) → Come book n at → rb ≡ book → stop ≡ after_at rb at → which ≡ which_at rb at → (which ≡ 0 → ⊥)
+    → (n ≡ length (records_of book)) × (stop ≡ stop_from book 0) × (which ≡ ends_by book)
+ended book rb n at stop which c same s w h =
+    let told : which ≡ which_at book at = subst (λ (b : List ℕ). which ≡ which_at b at) same w in
+    let left : stop ≡ after_at book at = subst (λ (b : List ℕ). stop ≡ after_at b at) same s in
+    let end = come_end book n at c (λ z. h (told ∙ z)) in
+    (end.0, left ∙ end.1, told ∙ end.2)

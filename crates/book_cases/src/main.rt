@@ -27,333 +27,83 @@
 ghost use Rattle.std.specs.Prelude.{◌≡◌, length};
 ghost use Rattle.wire.specs.Book.{which_at, record_at, after_at};
 ghost use Rattle.wire.specs.Cut.{records_of, stop_from, ends_by};
+ghost use Rattle.reader.specs.Reader.{which_in, bytes_in};
 
-use annex::{Customers, HalfMinutes};
-use book::Read;
-use fields::Sheet;
-use ledger::{Cell, Ledger, TypeRow};
-use reader::Reader;
-use text_items::Entry;
+use ledger::{Cell, Ledger};
+use reader::{Broken, Reader};
 
 // ---- what is printed
 
-fn word(out: &impl Print, text: &[u8]) {
-    let _ = out.write_all(text);
+fn print_cell(out: &impl Print, cell: Cell) {
+    cases::write_numbers(out, &[cell.customers.0, cell.halves.0]);
 }
 
-fn number(out: &impl Print, n: u64) {
-    let _ = print!(out; " {n}");
+// Events, short events, and the figures of type 11 on NN.
+fn print_counts(out: &impl Print, ledger: Ledger) {
+    cases::write_number(out, ledger.events);
+    cases::write_number(out, ledger.short);
 }
 
-fn print_cell(out: &impl Print, c: Cell) {
-    number(out, c.customers.0);
-    number(out, c.halves.0);
+fn print_first_cell(out: &impl Print, ledger: Ledger) {
+    print_cell(out, ledger.rows[0].levels[0]);
+}
+
+fn print_row(out: &impl Print, ledger: Ledger, typ: u64) {
+    if let Some(row) = ledger.rows.get(cases::place_of(typ)) {
+        for cell in row.levels {
+            print_cell(out, cell);
+        }
+    }
+}
+
+// Offset and value of each byte that is not 0.
+fn print_marks(out: &impl Print, map: &[u8]) {
+    for (at, byte) in map.iter().enumerate() {
+        if *byte != 0 {
+            cases::write_number(out, at);
+            cases::write_number(out, *byte);
+        }
+    }
+}
+
+fn print_levels(out: &impl Print, first: u64, last: u64) {
+    for code in 0..=u8::MAX {
+        if (first..=last).contains(&u64::from(code)) {
+            cases::write_number(out, codes::level_of(code));
+        }
+    }
 }
 
 // Something that is no line, or no case.
 fn wrong(out: &impl Print, what: &[u8]) {
-    word(out, b" NOT KNOWN: ");
-    word(out, what);
-    word(out, b"\n");
+    cases::write(out, b" NOT KNOWN: ");
+    cases::write_line(out, what);
 }
 
-// ---- what is read
+// ---- what a reader answers
 
-// Where a byte next stands in a text from a place on; the text's end where it does not.
-fn place_of(text: &[u8], start: usize, byte: u8) -> usize {
-    let mut end = start;
-    while end < text.len() {
-        if text[end] == byte {
-            return end;
-        }
-        end += 1;
-    }
-    end
-}
-
-// The first numbers of a line: as many as are read, each of them, 0 past them, and whether the last byte was a digit.
-#[derive(Clone, Copy)]
-struct Numbers {
-    count: usize,
-    values: [u64; 12],
-    inside: bool,
-}
-
-// The numbers with one digit more at the last of them.
-fn with_digit(n: Numbers, digit: u64) -> Numbers {
-    let mut next = n;
-    let at = n.count;
-    if at < 12 {
-        let value = next.values[at];
-        if value <= 1844674407370955161 {
-            next.values[at] = (value * 10).wrapping_add(digit);
-        }
-    }
-    next.inside = true;
-    next
-}
-
-// The numbers past one byte more.
-fn with_byte(n: Numbers, b: u8) -> Numbers {
-    if (b'0' <= b) & (b <= b'9') {
-        return with_digit(n, b as u64 % 16);
-    }
-    let mut next = n;
-    let at = n.count;
-    if n.inside {
-        if at < 12 {
-            next.count = at + 1;
-        }
-    }
-    next.inside = false;
-    next
-}
-
-fn numbers_in(s: &[u8]) -> Numbers {
-    let mut n = Numbers {
-        count: 0,
-        values: [0; 12],
-        inside: false,
-    };
-    let mut i = 0;
-    while i < s.len() {
-        n = with_byte(n, s[i]);
-        i += 1;
-    }
-    with_byte(n, b' ')
-}
-
-// A word past, and the space behind it.
-fn past_word(s: &[u8]) -> &[u8] {
-    let rest = wire::part(s, place_of(s, 0, b' '), s.len());
-    wire::part(rest, 1, rest.len())
-}
-
-// ---- what is lent
-
-// A ledger, a map of so many bytes, and the bytes that are ready.
-#[derive(Clone, Copy)]
-struct Bench {
-    ledger: Ledger,
-    map: [u8; 8193],
-    size: usize,
-    bytes: [u8; 2048],
-    held: usize,
-}
-
-fn begun() -> Bench {
-    Bench {
-        ledger: Ledger::empty(),
-        map: [0; 8193],
-        size: 8192,
-        bytes: [0; 2048],
-        held: 0,
+// An answer of a reader as a number: 0 a record, 1 the end, 2 a broken length.
+fn which_of(answer: Result<Option<&[u8]>, Broken>) -> u8
+    ensures { result ≡ which_in answer.entry }
+{
+    match answer {
+        Ok(Some(_)) => 0,
+        Ok(None) => 1,
+        Err(Broken) => 2,
     }
 }
 
-fn sheet_of(v: [u64; 12]) -> Sheet {
-    Sheet {
-        there: v[0] == 1,
-        year: (v[1] % 65536) as u16,
-        totals: [
-            (v[2] % 4294967296) as u32,
-            (v[3] % 4294967296) as u32,
-            (v[4] % 4294967296) as u32,
-        ],
+// The size of the record that it is; 0 where there is none.
+fn size_of(answer: Result<Option<&[u8]>, Broken>) -> usize
+    ensures { result ≡ length (bytes_in answer.entry) }
+{
+    match answer {
+        Ok(Some(record)) => record.len(),
+        Ok(None) | Err(Broken) => 0,
     }
 }
 
-fn ledger_of(v: [u64; 12]) -> Ledger {
-    let mut l = Ledger::empty();
-    let sheet = sheet_of(v);
-    l.sheet = sheet;
-    l.events = (v[5] % 65536) as u16;
-    l.short = (v[6] % 65536) as u16;
-    l
-}
-
-fn cell_of(customers: u64, halves: u64) -> Cell {
-    Cell {
-        customers: Customers(customers),
-        halves: HalfMinutes(halves),
-    }
-}
-
-fn row_of(v: [u64; 12]) -> TypeRow {
-    TypeRow {
-        levels: [
-            cell_of(v[1], v[2]),
-            cell_of(v[3], v[4]),
-            cell_of(v[5], v[6]),
-        ],
-    }
-}
-
-// The place of a type's row.
-fn place(typ: u64) -> usize {
-    codes::row_of((typ % 256) as u8) as usize
-}
-
-fn with_row(l: Ledger, v: [u64; 12]) -> Ledger {
-    let mut next = l;
-    let row = row_of(v);
-    let at = place(v[0]);
-    if at < codes::ROWS {
-        next.rows[at] = row;
-    }
-    next
-}
-
-// The bench with another ledger and map, with an all-zero map of so many bytes, and with no bytes.
-fn with_both(b: Bench, l: Ledger, map: [u8; 8193]) -> Bench {
-    let mut next = b;
-    next.ledger = l;
-    next.map = map;
-    next
-}
-
-fn with_map(b: Bench, size: u64) -> Bench {
-    let mut next = b;
-    next.map = [0; 8193];
-    next.size = size as usize;
-    next
-}
-
-fn with_no_bytes(b: Bench) -> Bench {
-    let mut next = b;
-    next.held = 0;
-    next
-}
-
-// The bench with the bytes of a record after those that are ready.
-fn with_record(b: Bench, entry: Entry) -> Bench {
-    let mut next = b;
-    let mut bytes = b.bytes;
-    let held = pack::pack(&mut bytes, b.held, entry);
-    next.bytes = bytes;
-    next.held = held;
-    next
-}
-
-// ---- cases
-
-// A map of so many bytes.
-fn sized(map: &mut [u8], size: usize) -> &mut [u8] {
-    if size <= map.len() {
-        return &mut map[0..size];
-    }
-    map
-}
-
-// Changes the byte at a place, where a line has so many numbers.
-fn change(bytes: &mut [u8], there: bool, at: u64, byte: u64) {
-    if !there {
-        return;
-    }
-    let to = at as usize;
-    if to < bytes.len() {
-        bytes[to] = (byte % 256) as u8;
-    }
-}
-
-// So many of the ready bytes, some of them changed: how many.
-fn first_of(bytes: &mut [u8], what: &[u8]) -> usize {
-    let n = numbers_in(what);
-    let v = n.values;
-    change(bytes, 3 <= n.count, v[1], v[2]);
-    change(bytes, 5 <= n.count, v[3], v[4]);
-    change(bytes, 7 <= n.count, v[5], v[6]);
-    v[0] as usize
-}
-
-// The bytes of a case, put where the ready ones stand: how many.
-fn put_bytes(out: &impl Print, bytes: &mut [u8], what: &[u8]) -> usize {
-    if wire::byte_at(what, 0) == b'f' {
-        return first_of(bytes, what);
-    }
-    let parsed = text_parse::parse(what, 0);
-    if parsed.answer != 0 {
-        wrong(out, what);
-    }
-    let told = parsed.entry;
-    pack::pack(bytes, 0, told)
-}
-
-fn print_first_cell(out: &impl Print, l: Ledger) {
-    let row = l.rows[0];
-    print_cell(out, row.levels[0]);
-}
-
-fn print_counts(out: &impl Print, l: Ledger) {
-    number(out, l.events as u64);
-    number(out, l.short as u64);
-}
-
-fn print_added(out: &impl Print, l: Ledger) {
-    print_counts(out, l);
-    print_first_cell(out, l);
-}
-
-// The offset and the value of a byte that is not 0.
-fn print_mark(out: &impl Print, at: usize, byte: u8) {
-    if byte != 0 {
-        number(out, at as u64);
-        number(out, byte as u64);
-    }
-}
-
-fn print_marks(out: &impl Print, map: &[u8]) {
-    let mut i = 0;
-    while i < map.len() {
-        print_mark(out, i, map[i]);
-        i += 1;
-    }
-}
-
-// The answer to a record, and what the case's first letter asks beside it.
-fn print_taken(out: &impl Print, letter: u8, answer: u8, l: Ledger, map: &[u8]) {
-    number(out, answer as u64);
-    match letter {
-        b'a' => print_added(out, l),
-        b'm' => print_marks(out, map),
-        _ => {}
-    }
-}
-
-// The bench after a case's bytes were taken as one record.
-fn taken(out: &impl Print, b: Bench, letter: u8, what: &[u8]) -> Bench {
-    let mut bytes = b.bytes;
-    let held = put_bytes(out, &mut bytes, what);
-    let mut map = b.map;
-    let l = b.ledger;
-    let t = l.take(sized(&mut map, b.size), wire::part(&bytes, 0, held));
-    let next = t.ledger;
-    print_taken(out, letter, t.answer, next, &map);
-    with_both(b, next, map)
-}
-
-fn print_read(out: &impl Print, r: Read) {
-    let l = r.ledger;
-    number(out, r.answer as u64);
-    print_counts(out, l);
-    number(out, r.refused);
-    number(out, if r.broken { 1 } else { 0 });
-    print_first_cell(out, l);
-}
-
-// The bench after a case's bytes were read as a book.
-fn read(out: &impl Print, b: Bench, what: &[u8]) -> Bench {
-    let mut bytes = b.bytes;
-    let held = put_bytes(out, &mut bytes, what);
-    let mut map = b.map;
-    let l = b.ledger;
-    let r = book::take_book(l, sized(&mut map, b.size), wire::part(&bytes, 0, held));
-    let next = r.ledger;
-    print_read(out, r);
-    with_both(b, next, map)
-}
-
-// What a reader at an offset answers, the size of its record and the offset of the answered reader, and what that one answers.
+// What a reader at an offset answers, the size of its record, the offset where the reader then stands, and what it answers there.
 #[derive(Drop)]
 struct Asked {
     which: u8,
@@ -362,34 +112,26 @@ struct Asked {
     again: u8,
 }
 
-// Asks a reader at an offset, and then the reader that was answered.
+// Asks a reader at an offset, and then once more.
 fn first_from(book: &[u8], at: usize) -> Asked
     ensures { (result.which ≡ which_at book.now at) × (result.size ≡ length (record_at book.now at)) × (result.at ≡ after_at book.now at) × (result.again ≡ which_at book.now (after_at book.now at)) }
 {
-    let a = Reader::from(book, at).next();
-    let b = a.reader.next();
+    let mut reader = Reader::from(book, at);
+    let answer = reader.next();
+    let stop = reader.at;
     Asked {
-        which: a.which,
-        size: a.bytes.len(),
-        at: a.reader.at,
-        again: b.which,
+        which: which_of(answer),
+        size: size_of(answer),
+        at: stop,
+        again: which_of(reader.next()),
     }
 }
 
-fn print_asked(out: &impl Print, a: Asked) {
-    number(out, a.which as u64);
-    number(out, a.size as u64);
-    number(out, a.at as u64);
-    number(out, a.again as u64);
-}
-
-// A case `next`: what a reader of its bytes answers at its offset.
-fn ask(out: &impl Print, lent: [u8; 2048], what: &[u8]) {
-    let n = numbers_in(what);
-    let v = n.values;
-    let mut bytes = lent;
-    let held = put_bytes(out, &mut bytes, past_word(past_word(what)));
-    print_asked(out, first_from(wire::part(&bytes, 0, held), v[0] as usize));
+fn print_asked(out: &impl Print, asked: Asked) {
+    cases::write_number(out, asked.which);
+    cases::write_number(out, asked.size);
+    cases::write_number(out, asked.at);
+    cases::write_number(out, asked.again);
 }
 
 // What a book's reader comes to: how many records it gave, where it was left, and how it ended (1 the end, 2 a broken length).
@@ -404,160 +146,219 @@ struct Counted {
 fn count_records(book: &[u8]) -> Counted
     ensures { (result.count ≡ length (records_of book.now)) × (result.at ≡ stop_from book.now 0) × (result.which ≡ ends_by book.now) }
 {
-    let mut n: usize = 0;
-    let mut a = Reader::new(book).next();
-    while a.which == 0 {
-        a = a.reader.next();
-        n += 1;
-    }
-    Counted {
-        count: n,
-        at: a.reader.at,
-        which: a.which,
-    }
-}
-
-fn print_counted(out: &impl Print, c: Counted) {
-    number(out, c.count as u64);
-    number(out, c.at as u64);
-    number(out, c.which as u64);
-}
-
-// A case `count`: what a reader of its bytes comes to.
-fn count(out: &impl Print, lent: [u8; 2048], what: &[u8]) {
-    let mut bytes = lent;
-    let held = put_bytes(out, &mut bytes, past_word(what));
-    print_counted(out, count_records(wire::part(&bytes, 0, held)));
-}
-
-fn print_row(out: &impl Print, l: Ledger, typ: u64) {
-    let at = place(typ);
-    if at < codes::ROWS {
-        let row = l.rows[at];
-        print_cell(out, row.levels[0]);
-        print_cell(out, row.levels[1]);
-        print_cell(out, row.levels[2]);
-    }
-}
-
-fn print_levels(out: &impl Print, first: u64, last: u64) {
-    let mut code: usize = 0;
-    while code < 256 {
-        if (first <= code as u64) & (code as u64 <= last) {
-            number(out, codes::level_of((code % 256) as u8) as u64);
-        }
-        code += 1;
-    }
-}
-
-// What is asked of the codes, the ledger or the ready bytes, which stay as they are.
-fn tell(out: &impl Print, b: Bench, what: &[u8]) {
-    let l = b.ledger;
-    let bytes = b.bytes;
-    let n = numbers_in(what);
-    let v = n.values;
-    match wire::byte_at(what, 0) {
-        b'e' => number(out, l.events as u64),
-        b'n' => ask(out, bytes, what),
-        b'c' => count(out, bytes, what),
-        b'l' => print_levels(out, v[0], v[1]),
-        _ => print_row(out, l, v[0]),
-    }
-}
-
-// Prints what a case comes to: the bench after it.
-fn run_asked(out: &impl Print, b: Bench, what: &[u8]) -> Bench {
-    let letter = wire::byte_at(what, 0);
-    match letter {
-        b'a' | b'm' => taken(out, b, letter, past_word(what)),
-        b'b' => read(out, b, past_word(what)),
-        b'c' | b'e' | b'l' | b'n' | b'r' => {
-            tell(out, b, what);
-            b
-        }
-        _ => taken(out, b, letter, what),
-    }
-}
-
-// A line with a colon at a place: a case.
-fn run_case(out: &impl Print, b: Bench, line: &[u8], colon: usize) -> Bench {
-    word(out, wire::part(line, 0, colon));
-    let rest = wire::part(line, colon, line.len());
-    let next = run_asked(out, b, past_word(rest));
-    word(out, b"\n");
-    if wire::byte_at(rest, 1) == b'=' {
-        return next;
-    }
-    b
-}
-
-// A line that is no record and no case: what it lends.
-fn lent(out: &impl Print, b: Bench, line: &[u8]) -> Bench {
-    let n = numbers_in(line);
-    let v = n.values;
-    let l = b.ledger;
-    let map = b.map;
-    match wire::byte_at(line, 0) {
-        b'l' => with_both(b, ledger_of(v), map),
-        b'r' => with_both(b, with_row(l, v), map),
-        b'm' => with_map(b, v[0]),
-        b'b' => with_no_bytes(b),
-        _ => {
-            wrong(out, line);
-            b
+    let mut reader = Reader::new(book);
+    let mut count: usize = 0;
+    'records: loop {
+        match reader.next() {
+            Ok(Some(_)) => count += 1,
+            Ok(None) => {
+                return Counted {
+                    count,
+                    at: reader.at,
+                    which: 1,
+                };
+            }
+            Err(Broken) => {
+                return Counted {
+                    count,
+                    at: reader.at,
+                    which: 2,
+                };
+            }
         }
     }
 }
 
-// A line that is no heading and no record.
-fn take_other(out: &impl Print, b: Bench, line: &[u8]) -> Bench {
-    let colon = place_of(line, 0, b':');
-    if colon < line.len() {
-        return run_case(out, b, line, colon);
-    }
-    lent(out, b, line)
+fn print_counted(out: &impl Print, counted: Counted) {
+    cases::write_number(out, counted.count);
+    cases::write_number(out, counted.at);
+    cases::write_number(out, counted.which);
 }
 
-// A line that is no heading.
-fn take_words(out: &impl Print, b: Bench, line: &[u8]) -> Bench {
-    let parsed = text_parse::parse(line, 0);
-    let told = parsed.entry;
-    let answer = parsed.answer;
-    match answer {
-        0 => with_record(b, told),
-        _ => take_other(out, b, line),
+// ---- what is lent
+
+// A ledger, a map of so many bytes, and the bytes that are ready.
+#[derive(Clone, Copy)]
+struct Bench {
+    ledger: Ledger,
+    map: [u8; 8193],
+    size: usize,
+    bytes: [u8; 2048],
+    held: usize,
+}
+
+// The bytes of a case, at the front of those that were ready, and how many they are.
+#[derive(Clone, Copy)]
+struct Told {
+    bytes: [u8; 2048],
+    held: usize,
+}
+
+impl Told {
+    // Changes the byte at a place, where a line has so many numbers.
+    fn change(&mut self, there: bool, at: u64, byte: u64) {
+        if there && let Some(old) = self.bytes.get_mut(at as usize) {
+            *old = cases::byte(byte);
+        }
+    }
+
+    fn part(&self) -> &[u8] {
+        wire::part(&self.bytes, 0, self.held)
     }
 }
 
-fn take_line(out: &impl Print, b: Bench, line: &[u8]) -> Bench {
-    match wire::byte_at(line, 0) {
-        b'-' => {
-            word(out, line);
-            word(out, b"\n");
-            b
+impl Bench {
+    fn new() -> Bench {
+        Bench {
+            ledger: Ledger::empty(),
+            map: [0; 8193],
+            size: 8192,
+            bytes: [0; 2048],
+            held: 0,
         }
-        _ => take_words(out, b, line),
     }
-}
 
-fn run(out: &impl Print, text: &[u8]) {
-    let mut b = begun();
-    let mut stop: usize = 0;
-    while stop < text.len() {
-        let end = place_of(text, stop, b'\n');
-        b = take_line(out, b, wire::part(text, stop, end));
-        if text.len() <= end {
-            return;
+    // ---- the bytes of a case
+
+    // So many of the ready bytes, some of them changed.
+    fn first_ready(&self, what: &[u8]) -> Told {
+        let told = cases::first_numbers(what);
+        let v = told.values;
+        let mut first = Told {
+            bytes: self.bytes,
+            held: v[0] as usize,
+        };
+        first.change(3 <= told.count, v[1], v[2]);
+        first.change(5 <= told.count, v[3], v[4]);
+        first.change(7 <= told.count, v[5], v[6]);
+        first
+    }
+
+    // The bytes that a case names.
+    fn told(&self, out: &impl Print, what: &[u8]) -> Told {
+        if what.starts_with(b"f") {
+            return self.first_ready(what);
         }
-        if end < stop {
-            return;
+        let mut bytes = self.bytes;
+        if cases::entry_told(what).is_none() {
+            wrong(out, what);
         }
-        stop = end + 1;
+        let held = cases::put_told(&mut bytes, what);
+        Told { bytes, held }
+    }
+
+    // ---- cases
+
+    // The bytes taken as one record: the answer, and what the case's first letter asks beside it.
+    fn take(&mut self, out: &impl Print, letter: u8, what: &[u8]) {
+        let told = self.told(out, what);
+        let size = self.size.min(self.map.len());
+        let taken = self.ledger.take(&mut self.map[..size], told.part());
+        cases::write_number(out, cases::answer_of(&taken));
+        self.ledger = taken.unwrap_or(self.ledger);
+        match letter {
+            b'a' => {
+                print_counts(out, self.ledger);
+                print_first_cell(out, self.ledger);
+            }
+            b'm' => print_marks(out, &self.map),
+            _ => {}
+        }
+    }
+
+    // The bytes read as a book.
+    fn read(&mut self, out: &impl Print, what: &[u8]) {
+        let told = self.told(out, what);
+        let size = self.size.min(self.map.len());
+        let outcome = book::take_book(self.ledger, &mut self.map[..size], told.part());
+        let (refused, broken) = match &outcome {
+            Ok(read) => {
+                self.ledger = read.ledger;
+                (read.refused, read.broken)
+            }
+            Err(_) => (0, false),
+        };
+        cases::write_number(out, cases::answer_of(&outcome));
+        print_counts(out, self.ledger);
+        cases::write_numbers(out, &[refused, u64::from(broken)]);
+        print_first_cell(out, self.ledger);
+    }
+
+    // A case `next`: what a reader of its bytes answers at its offset.
+    fn ask(&self, out: &impl Print, what: &[u8]) {
+        let at = cases::first_numbers(what).values[0];
+        let told = self.told(out, cases::past_word(cases::past_word(what)));
+        print_asked(out, first_from(told.part(), at as usize));
+    }
+
+    // A case `count`: what a reader of its bytes comes to.
+    fn count(&self, out: &impl Print, what: &[u8]) {
+        let told = self.told(out, cases::past_word(what));
+        print_counted(out, count_records(told.part()));
+    }
+
+    // Prints what a case comes to.
+    fn run(&mut self, out: &impl Print, what: &[u8]) {
+        let v = cases::first_numbers(what).values;
+        let letter = wire::byte_at(what, 0);
+        match letter {
+            b'a' | b'm' => self.take(out, letter, cases::past_word(what)),
+            b'b' => self.read(out, cases::past_word(what)),
+            b'c' => self.count(out, what),
+            b'e' => cases::write_number(out, self.ledger.events),
+            b'l' => print_levels(out, v[0], v[1]),
+            b'n' => self.ask(out, what),
+            b'r' => print_row(out, self.ledger, v[0]),
+            _ => self.take(out, letter, what),
+        }
+    }
+
+    // ---- lines
+
+    // A line with a colon: a case, after which all is as it was unless = stands behind the colon.
+    fn take_case(&mut self, out: &impl Print, name: &[u8], rest: &[u8]) {
+        cases::write(out, name);
+        let mut after = *self;
+        after.run(out, cases::past_word(rest));
+        cases::write(out, b"\n");
+        if rest.starts_with(b":=") {
+            *self = after;
+        }
+    }
+
+    // A line that is no record and no case: what it lends.
+    fn lend(&mut self, out: &impl Print, line: &[u8]) {
+        let v = cases::first_numbers(line).values;
+        match line.first() {
+            Some(b'l') => self.ledger = cases::ledger_of(v),
+            Some(b'r') => cases::set_row(&mut self.ledger, v),
+            Some(b'm') => {
+                self.map = [0; 8193];
+                self.size = v[0] as usize;
+            }
+            Some(b'b') => self.held = 0,
+            _ => wrong(out, line),
+        }
+    }
+
+    fn take_line(&mut self, out: &impl Print, line: &[u8]) {
+        if line.starts_with(b"-") {
+            cases::write_line(out, line);
+        } else if let Some(entry) = cases::entry_told(line) {
+            self.held = pack::pack(&mut self.bytes, self.held, entry);
+        } else if let Some(colon) = line.iter().position(|b| *b == b':') {
+            self.take_case(out, &line[..colon], &line[colon..]);
+        } else {
+            self.lend(out, line);
+        }
     }
 }
 
 fn main(rt: HostRuntime) {
     let mut text = [0u8; 65536];
     let n = refill::read_full(&mut rt.stdin(), &mut text);
-    run(&rt, &text[..n]);
+    let mut bench = Bench::new();
+    for line in text[..n].split(|b| *b == b'\n') {
+        bench.take_line(&rt, line);
+    }
 }

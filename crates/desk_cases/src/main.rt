@@ -30,149 +30,179 @@
 // A line that begins with # and a line of no bytes are passed over. A line that is none of these is printed.
 #![tactic(auto)]
 
-ghost use Rattle.std.specs.Prelude.{◌≡◌, min, ◌<◌, length};
+ghost use Rattle.std.specs.Prelude.{◌≡◌, min};
 
 use annex::{Customers, Figures, HalfMinutes};
-use desk_rules::Served;
+use cases::Line;
+use codes::LEVELS;
 use fields::Head;
 use ledger::{Cell, Ledger};
+use pen::Pen;
+use refusals::Refusal;
 use slot::Slot;
 
-// ---- what is printed
+// ---- what a line does or looks at
 
-fn word(out: &impl Print, text: &[u8]) {
-    let _ = out.write_all(text);
+#[derive(Clone, Copy, PartialEq, Eq)]
+enum Word {
+    Sheet,
+    Empty,
+    Lent,
+    Used,
+    Slot,
+    Open,
+    Step,
+    Close,
+    Stepped,
+    Hex,
+    Nothing,
+    Look,
+    Row,
+    Customers,
+    Halves,
+    Byte,
+    Other,
 }
 
-fn number(out: &impl Print, n: u64) {
-    let _ = print!(out; " {n}");
-}
-
-// ---- numbers of a line
-
-// The k-th number of a line stands at place k, from 1 on; how many there are, and whether the last one may go on.
-#[derive(Drop)]
-struct Numbers {
-    values: [u64; 16],
-    count: usize,
-    open: bool,
-}
-
-fn with_digit(v: u64, digit: u8) -> u64 {
-    if v < 1844674407370955161 {
-        return v * 10 + (digit % 10) as u64;
-    }
-    if v == 1844674407370955161 {
-        return v * 10 + (digit % 6) as u64;
-    }
-    v
-}
-
-fn with_byte(n: Numbers, b: u8) -> Numbers {
-    let mut values = n.values;
-    let mut count = n.count;
-    if b < 48 {
-        return Numbers {
-            values,
-            count,
-            open: false,
-        };
-    }
-    if 57 < b {
-        return Numbers {
-            values,
-            count,
-            open: false,
-        };
-    }
-    if !n.open {
-        count = count % 15 + 1;
-    }
-    if count < 16 {
-        values[count] = with_digit(values[count], b - 48);
-    }
-    Numbers {
-        values,
-        count,
-        open: true,
+// The word of a line, by its first two letters. `stepped` begins with those of `step`, and is also told by its third and fourth.
+fn word_of(line: &[u8]) -> Word {
+    match &[wire::byte_at(line, 0), wire::byte_at(line, 1)] {
+        b"sh" => Word::Sheet,
+        b"em" => Word::Empty,
+        b"le" => Word::Lent,
+        b"us" => Word::Used,
+        b"sl" => Word::Slot,
+        b"op" => Word::Open,
+        b"st" if wire::byte_at(line, 4) == b'p' => Word::Stepped,
+        b"st" => Word::Step,
+        b"ep" => Word::Stepped,
+        b"cl" => Word::Close,
+        b"he" => Word::Hex,
+        b"no" => Word::Nothing,
+        b"lo" => Word::Look,
+        b"ro" => Word::Row,
+        b"cu" => Word::Customers,
+        b"ha" => Word::Halves,
+        b"by" => Word::Byte,
+        _ => Word::Other,
     }
 }
 
-fn numbers_in(line: &[u8]) -> Numbers {
-    let mut n = Numbers {
-        values: [0; 16],
-        count: 0,
-        open: false,
-    };
-    let mut i = 0;
-    while i < line.len() {
-        n = with_byte(n, line[i]);
-        i += 1;
+// Whether a line is one of the text's, with as many numbers as it has to have.
+fn is_right(line: &[u8], word: Word, count: usize) -> bool {
+    match word {
+        Word::Sheet | Word::Stepped | Word::Hex => cases::entry_told(line).is_some(),
+        Word::Empty | Word::Nothing => count == 0,
+        Word::Look | Word::Row | Word::Customers | Word::Halves | Word::Byte => count == 1,
+        Word::Used | Word::Close => count == 2,
+        Word::Lent => count == 4,
+        Word::Open => count == 5,
+        Word::Step => count == 6,
+        Word::Slot => count == 14,
+        Word::Other => false,
     }
-    n
 }
 
-// Where a byte first stands in a line; the line's end where it does not.
-fn place_of(line: &[u8], byte: u8) -> usize {
-    let mut end = 0;
-    while end < line.len() {
-        if line[end] == byte {
-            return end;
-        }
-        end += 1;
+// The numbers of a line. A line that is none of the text's is printed.
+fn values_of(out: &impl Print, line: &[u8]) -> [u64; 16] {
+    let told = cases::numbers_by_turns(line);
+    if !is_right(line, word_of(line), told.count) {
+        cases::write(out, b" no such line: ");
+        cases::write_line(out, line);
     }
-    end
+    told.values
 }
 
-// ---- lending
+// ---- messages and records
+
+fn put_open(pen: &mut Pen, v: [u64; 16]) {
+    cases::put_frame(pen, 13, 16, v[1]);
+    pen.put(cases::byte(v[2]));
+    pen.put(cases::byte(v[3]));
+    pen.put(cases::byte(v[4]));
+    pen.put_le4(cases::four(v[5]));
+}
+
+fn put_step(pen: &mut Pen, v: [u64; 16]) {
+    cases::put_frame(pen, 23, 17, v[1]);
+    pen.put(cases::byte(v[2]));
+    for n in [v[3], v[4], v[5], v[6]] {
+        pen.put_le4(cases::four(n));
+    }
+}
+
+fn put_close(pen: &mut Pen, v: [u64; 16]) {
+    cases::put_frame(pen, 7, 18, v[1]);
+    pen.put(cases::byte(v[2]));
+}
+
+// The numbers of a step of number 9, ordinal 1.
+const NINTH: [u64; 16] = [0, 9, 1, 0, 0, 0, 0, 0, 0, 0, 0, 0, 0, 0, 0, 0];
+
+// The bytes that a line stands for; none where it is no message and no record.
+fn put_line(out: &mut [u8], line: &[u8], word: Word, v: [u64; 16]) -> usize {
+    if let Word::Sheet | Word::Stepped | Word::Hex = word {
+        return cases::put_told(out, line);
+    }
+    let mut pen = Pen { out, at: 0 };
+    match word {
+        Word::Open => put_open(&mut pen, v),
+        Word::Step => put_step(&mut pen, v),
+        Word::Close => put_close(&mut pen, v),
+        Word::Slot => put_step(&mut pen, NINTH),
+        _ => {}
+    }
+    pen.at
+}
+
+// ---- what is looked at
+
+fn print_customers(out: &impl Print, all: [Customers; LEVELS]) {
+    cases::write_numbers(out, &[all[0].0, all[1].0, all[2].0]);
+}
+
+fn print_halves(out: &impl Print, all: [HalfMinutes; LEVELS]) {
+    cases::write_numbers(out, &[all[0].0, all[1].0, all[2].0]);
+}
+
+fn print_slot(out: &impl Print, slot: Slot) {
+    cases::write_number(out, slot.head.number);
+    cases::write_number(out, slot.head.t0);
+    cases::write_number(out, slot.last);
+    cases::write_number(out, slot.steps);
+    print_customers(out, slot.figures.customers);
+    print_halves(out, slot.figures.halves);
+}
+
+// The cells of a type's row; those of the first where the type is not listed.
+fn cells_of(ledger: Ledger, typ: u64) -> [Cell; LEVELS] {
+    ledger.rows[cases::place_of(typ) % codes::ROWS].levels
+}
+
+fn print_row(out: &impl Print, ledger: Ledger, typ: u64) {
+    let cells = cells_of(ledger, typ);
+    cases::write_number(out, ledger.events);
+    cases::write_number(out, ledger.short);
+    print_customers(out, cells.map(|cell| cell.customers));
+    print_halves(out, cells.map(|cell| cell.halves));
+}
+
+// ---- what is lent
 
 // The slots of a desk and one more, so that a desk too long can be lent too.
 const HELD: usize = 33;
-
-// The slots afterwards, and what the desk answered.
-#[derive(Drop)]
-struct Lent {
-    slots: [Slot; 33],
-    served: Served,
-}
-
-// The two put together.
-fn lent_of(slots: [Slot; 33], served: Served) -> Lent
-    ensures { result ≡ record { slots = slots; served = served } }
-{
-    Lent { slots, served }
-}
 
 // The number, at most the slots that are held.
 fn at_most_held(n: usize) -> usize
     ensures { result ≡ min n 33 }
 {
-    if n < HELD {
-        return n;
-    }
-    HELD
+    n.min(HELD)
 }
 
-// One message to the desk that the first n of the slots make, all of them where n is larger.
-fn serve_first(slots: [Slot; 33], n: usize, ledger: Ledger, map: &mut [u8], bytes: &[u8]) -> Lent {
-    let mut held = slots;
-    let k = at_most_held(n);
-    let served = desk::serve(ledger, map, &mut held[..k], bytes);
-    lent_of(held, served)
-}
-
-// The first n bytes of a map; all of it where n is larger.
-fn first_of(map: &mut [u8], n: usize) -> &mut [u8] {
-    if n < map.len() {
-        return &mut map[..n];
-    }
-    map
-}
-
-// What is lent: the slots and how many of them are the desk, the ledger, the map and how many bytes of it are lent; and the last answer.
+// The slots and how many of them are the desk, the ledger, the map and how many bytes of it are lent; and the last answer.
 #[derive(Clone, Copy)]
 struct Bench {
-    slots: [Slot; 33],
+    slots: [Slot; HELD],
     desk: u64,
     ledger: Ledger,
     map: [u8; 8193],
@@ -180,81 +210,13 @@ struct Bench {
     answer: u8,
 }
 
-// Nothing taken, nothing marked, nothing open.
-fn empty() -> Bench {
-    Bench {
-        slots: [Slot::free(); 33],
-        desk: 32,
-        ledger: Ledger::empty(),
-        map: [0; 8193],
-        bytes: 8192,
-        answer: 0,
-    }
-}
-
-// One message to the desk.
-fn served(before: Bench, bytes: &[u8]) -> Bench {
-    let mut b = before;
-    let slots = b.slots;
-    let ledger = b.ledger;
-    let mut map = b.map;
-    let l = serve_first(
-        slots,
-        b.desk as usize,
-        ledger,
-        first_of(&mut map, b.bytes as usize),
-        bytes,
-    );
-    let next = l.slots;
-    let s = l.served;
-    let after = s.ledger;
-    b.slots = next;
-    b.ledger = after;
-    b.map = map;
-    b.answer = s.answer;
-    b
-}
-
-// One record to the book entry.
-fn taken(before: Bench, bytes: &[u8]) -> Bench {
-    let mut b = before;
-    let ledger = b.ledger;
-    let mut map = b.map;
-    let t = ledger.take(first_of(&mut map, b.bytes as usize), bytes);
-    let after = t.ledger;
-    b.ledger = after;
-    b.map = map;
-    b.answer = t.answer;
-    b
-}
-
-// Events and short events of the ledger, bytes of the map and slots of the desk.
-fn with_sizes(before: Bench, v: [u64; 16]) -> Bench {
-    let mut b = before;
-    let mut l = b.ledger;
-    l.events = (v[1] % 65536) as u16;
-    l.short = (v[2] % 65536) as u16;
-    b.ledger = l;
-    b.bytes = v[3];
-    b.desk = v[4];
-    b
-}
-
-// A byte of the map.
-fn with_used(before: Bench, v: [u64; 16]) -> Bench {
-    let mut b = before;
-    let at = (v[1] % 8193) as usize;
-    b.map[at] = byte(v[2]);
-    b
-}
-
 fn head_of(v: [u64; 16]) -> Head {
     Head {
-        number: (v[2] % 65536) as u16,
-        typ: (v[3] % 256) as u8,
-        voltage: (v[4] % 256) as u8,
-        cause: (v[5] % 256) as u8,
-        t0: (v[6] % 4294967296) as u32,
+        number: cases::pair(v[2]),
+        typ: cases::byte(v[3]),
+        voltage: cases::byte(v[4]),
+        cause: cases::byte(v[5]),
+        t0: cases::four(v[6]),
     }
 }
 
@@ -265,323 +227,142 @@ fn figures_of(v: [u64; 16]) -> Figures {
     }
 }
 
-fn with_slot(before: Bench, v: [u64; 16]) -> Bench {
-    let mut b = before;
-    let at = (v[1] % 33) as usize;
-    b.slots[at] = Slot {
-        head: head_of(v),
-        last: (v[7] % 4294967296) as u32,
-        steps: (v[8] % 256) as u8,
-        figures: figures_of(v),
-    };
-    b
-}
-
-// ---- messages and records
-
-fn low(n: u64) -> u32 {
-    (n % 4294967296) as u32
-}
-
-fn byte(n: u64) -> u8 {
-    (n % 256) as u8
-}
-
-fn put_frame(out: &mut [u8], size: u32, kind: u32, n: u64) -> usize {
-    let kind_at = pen::put_le2(out, 0, size);
-    let number_at = pen::put_le2(out, kind_at, kind);
-    pen::put_le2(out, number_at, low(n))
-}
-
-fn put_open(out: &mut [u8], v: [u64; 16]) -> usize {
-    let type_at = put_frame(out, 13, 16, v[1]);
-    let voltage_at = pen::put(out, type_at, byte(v[2]));
-    let cause_at = pen::put(out, voltage_at, byte(v[3]));
-    let t0_at = pen::put(out, cause_at, byte(v[4]));
-    pen::put_le4(out, t0_at, low(v[5]))
-}
-
-fn put_step(out: &mut [u8], v: [u64; 16]) -> usize {
-    let ordinal_at = put_frame(out, 23, 17, v[1]);
-    let time_at = pen::put(out, ordinal_at, byte(v[2]));
-    let nn_at = pen::put_le4(out, time_at, low(v[3]));
-    let vn_at = pen::put_le4(out, nn_at, low(v[4]));
-    let vvn_at = pen::put_le4(out, vn_at, low(v[5]));
-    pen::put_le4(out, vvn_at, low(v[6]))
-}
-
-fn put_close(out: &mut [u8], v: [u64; 16]) -> usize {
-    let steps_at = put_frame(out, 7, 18, v[1]);
-    pen::put(out, steps_at, byte(v[2]))
-}
-
-// The numbers of a step of number 9, ordinal 1.
-const NINTH: [u64; 16] = [0, 9, 1, 0, 0, 0, 0, 0, 0, 0, 0, 0, 0, 0, 0, 0];
-
-// A line of docs/TEXT.md.
-fn put_record(out: &mut [u8], line: &[u8]) -> usize {
-    let parsed = text_parse::parse(line, 0);
-    let e = parsed.entry;
-    pack::pack(out, 0, e)
-}
-
-// The bytes that a line stands for; none where it is no message and no record.
-fn put_line(out: &mut [u8], line: &[u8], word: u16, v: [u64; 16]) -> usize {
-    match word {
-        SHEET | STEPPED | HEX => put_record(out, line),
-        OPEN => put_open(out, v),
-        STEP => put_step(out, v),
-        CLOSE => put_close(out, v),
-        SLOT => put_step(out, NINTH),
-        _ => 0,
-    }
-}
-
-// ---- what is looked at
-
-fn three(out: &impl Print, a: u64, b: u64, c: u64) {
-    number(out, a);
-    number(out, b);
-    number(out, c);
-}
-
-fn print_slot(out: &impl Print, s: Slot) {
-    let head = s.head;
-    let f = s.figures;
-    let c = f.customers;
-    let h = f.halves;
-    three(out, head.number as u64, head.t0 as u64, s.last as u64);
-    number(out, s.steps as u64);
-    three(out, c[0].0, c[1].0, c[2].0);
-    three(out, h[0].0, h[1].0, h[2].0);
-}
-
-// The cells of a type's row; those of the first where the type is not listed.
-fn cells_of(l: Ledger, typ: u64) -> [Cell; codes::LEVELS] {
-    let rows = l.rows;
-    let at = (codes::row_of(byte(typ)) % codes::NO_ROW) as usize;
-    let row = rows[at];
-    row.levels
-}
-
-fn print_row(out: &impl Print, l: Ledger, typ: u64) {
-    let c = cells_of(l, typ);
-    number(out, l.events as u64);
-    number(out, l.short as u64);
-    three(out, c[0].customers.0, c[1].customers.0, c[2].customers.0);
-    three(out, c[0].halves.0, c[1].halves.0, c[2].halves.0);
-}
-
-// Customers or half minutes of NN alone.
-fn print_first(out: &impl Print, l: Ledger, typ: u64, halves: bool) {
-    let c = cells_of(l, typ);
-    if halves {
-        number(out, c[0].halves.0);
-    } else {
-        number(out, c[0].customers.0);
-    }
-}
-
-// The slot and the map's byte at a place, the ledger and the answer: what a line with a name prints is one of them.
-fn print(out: &impl Print, word: u16, at: u64, slot: Slot, used: u8, l: Ledger, answer: u8) {
-    match word {
-        LOOK => print_slot(out, slot),
-        BYTE => number(out, used as u64),
-        ROW => print_row(out, l, at),
-        CUSTOMERS => print_first(out, l, at, false),
-        HALVES => print_first(out, l, at, true),
-        _ => number(out, answer as u64),
-    }
-}
-
-// ---- lines, told apart by the first two letters of their word
-
-const SHEET: u16 = b's' as u16 + b'h' as u16 * 256;
-
-const EMPTY: u16 = b'e' as u16 + b'm' as u16 * 256;
-
-const LENT: u16 = b'l' as u16 + b'e' as u16 * 256;
-
-const USED: u16 = b'u' as u16 + b's' as u16 * 256;
-
-const SLOT: u16 = b's' as u16 + b'l' as u16 * 256;
-
-const OPEN: u16 = b'o' as u16 + b'p' as u16 * 256;
-
-const STEP: u16 = b's' as u16 + b't' as u16 * 256;
-
-// Of `stepped` the third and fourth letters, since `step` begins with the same two.
-const STEPPED: u16 = b'e' as u16 + b'p' as u16 * 256;
-
-const CLOSE: u16 = b'c' as u16 + b'l' as u16 * 256;
-
-const HEX: u16 = b'h' as u16 + b'e' as u16 * 256;
-
-const NOTHING: u16 = b'n' as u16 + b'o' as u16 * 256;
-
-const LOOK: u16 = b'l' as u16 + b'o' as u16 * 256;
-
-const ROW: u16 = b'r' as u16 + b'o' as u16 * 256;
-
-const CUSTOMERS: u16 = b'c' as u16 + b'u' as u16 * 256;
-
-const HALVES: u16 = b'h' as u16 + b'a' as u16 * 256;
-
-const BYTE: u16 = b'b' as u16 + b'y' as u16 * 256;
-
-// The word of a line, by its first letters.
-fn word_of(line: &[u8]) -> u16 {
-    let letters = wire::u16_at(line, 0);
-    if (letters == STEP) & (wire::byte_at(line, 4) == b'p') {
-        return STEPPED;
-    }
-    letters
-}
-
-// Whether a line is one of the text's, with as many numbers as it has to have.
-fn is_right(line: &[u8], word: u16, count: usize) -> bool {
-    match word {
-        SHEET | STEPPED | HEX => text_parse::parse(line, 0).answer == 0,
-        EMPTY | NOTHING => count == 0,
-        LOOK | ROW | CUSTOMERS | HALVES | BYTE => count == 1,
-        USED | CLOSE => count == 2,
-        LENT => count == 4,
-        OPEN => count == 5,
-        STEP => count == 6,
-        SLOT => count == 14,
-        _ => false,
-    }
-}
-
-// The numbers of a line. A line that is none of the text's is printed.
-fn values_of(out: &impl Print, line: &[u8]) -> [u64; 16] {
-    let n = numbers_in(line);
-    if !is_right(line, word_of(line), n.count) {
-        word(out, b" no such line: ");
-        heading(out, line);
-    }
-    n.values
-}
-
-// What a line does.
-fn sent(b: Bench, line: &[u8], word: u16, v: [u64; 16]) -> Bench {
-    let mut out = [0u8; 4096];
-    let size = put_line(&mut out, line, word, v);
-    let bytes = wire::part(&out, 0, size);
-    match word {
-        SHEET | EMPTY => taken(empty(), bytes),
-        STEPPED => taken(b, bytes),
-        OPEN | STEP | CLOSE | HEX | NOTHING => served(b, bytes),
-        SLOT => served(with_slot(b, v), bytes),
-        LENT => with_sizes(b, v),
-        USED => with_used(b, v),
-        _ => b,
-    }
-}
-
-fn print_of(out: &impl Print, b: Bench, word: u16, at: u64) {
-    let slots = b.slots;
-    let map = b.map;
-    let l = b.ledger;
-    let i = (at % 33) as usize;
-    let k = (at % 8193) as usize;
-    print(out, word, at, slots[i], map[k], l, b.answer);
-}
-
-// The end of a printed line, where it does not go on.
-fn print_end(out: &impl Print, sort: u8) {
-    if sort != b'+' {
-        word(out, b"\n");
-    }
-}
-
-// A line with a name.
-fn named(out: &impl Print, b: Bench, line: &[u8], sort: u8) -> Bench {
-    let word = word_of(line);
-    let v = values_of(out, line);
-    let next = sent(b, line, word, v);
-    print_of(out, next, word, v[1]);
-    print_end(out, sort);
-    next
-}
-
-// What a line is: the byte after the colon where it has a name, its first byte where it is a heading or passed over, and 0 for any other.
-fn sort_of(line: &[u8], colon: usize) -> u8 {
-    let first = wire::byte_at(line, 0);
-    if line.len() == 0 {
-        return b'#';
-    }
-    if (first == b'#') | (first == b'-') {
-        return first;
-    }
-    wire::byte_at(wire::part(line, colon, line.len()), 1)
-}
-
-fn print_name(out: &impl Print, line: &[u8], sort: u8, colon: usize) {
-    match sort {
-        b'-' => heading(out, line),
-        b' ' | b'=' | b'+' => word(out, wire::part(line, 0, colon)),
-        _ => word(out, b""),
-    }
-}
-
-fn heading(out: &impl Print, line: &[u8]) {
-    word(out, line);
-    word(out, b"\n");
-}
-
-// A line without its name, from the colon on.
-fn body_of(rest: &[u8], sort: u8) -> &[u8] {
-    match sort {
-        b' ' => wire::part(rest, 2, rest.len()),
-        _ => wire::part(rest, 3, rest.len()),
-    }
-}
-
-fn take_line(out: &impl Print, b: Bench, line: &[u8]) -> Bench {
-    let colon = place_of(line, b':');
-    let sort = sort_of(line, colon);
-    let rest = wire::part(line, colon, line.len());
-    print_name(out, line, sort, colon);
-    match sort {
-        b'#' | b'-' => b,
-        b' ' => {
-            named(out, b, body_of(rest, sort), sort);
-            b
+impl Bench {
+    // Nothing taken, nothing marked, nothing open.
+    fn empty() -> Bench {
+        Bench {
+            slots: [Slot::free(); HELD],
+            desk: 32,
+            ledger: Ledger::empty(),
+            map: [0; 8193],
+            bytes: 8192,
+            answer: 0,
         }
-        b'=' | b'+' => named(out, b, body_of(rest, sort), sort),
-        _ => sent(b, line, word_of(line), values_of(out, line)),
     }
-}
 
-// The place after a line that begins at a place of the text.
-fn past_line(text: &[u8], start: usize) -> usize
-    requires { start < length text.now }
-    ensures { start < result }
-{
-    let mut end = start;
-    while end < text.len() {
-        if text[end] == 10 {
-            return end + 1;
-        }
-        end += 1;
+    // The ledger of an outcome, or the same one where it is refused; and its answer.
+    fn keep(&mut self, outcome: Result<Ledger, Refusal>) {
+        self.answer = cases::answer_of(&outcome);
+        self.ledger = outcome.unwrap_or(self.ledger);
     }
-    end
+
+    // One message to the desk that the first of the slots make. They are copied out and back, as one call is not lent two fields behind a reference.
+    fn serve(&mut self, message: &[u8]) {
+        let size = (self.bytes as usize).min(self.map.len());
+        let desk = at_most_held(self.desk as usize);
+        let mut slots = self.slots;
+        let served = desk::serve(
+            self.ledger,
+            &mut self.map[..size],
+            &mut slots[..desk],
+            message,
+        );
+        self.slots = slots;
+        self.keep(served);
+    }
+
+    // One record to the book entry.
+    fn take(&mut self, record: &[u8]) {
+        let size = (self.bytes as usize).min(self.map.len());
+        let taken = self.ledger.take(&mut self.map[..size], record);
+        self.keep(taken);
+    }
+
+    // Events and short events of the ledger, bytes of the map and slots of the desk.
+    fn resize(&mut self, v: [u64; 16]) {
+        self.ledger.events = cases::pair(v[1]);
+        self.ledger.short = cases::pair(v[2]);
+        self.bytes = v[3];
+        self.desk = v[4];
+    }
+
+    fn set_used(&mut self, v: [u64; 16]) {
+        self.map[(v[1] % 8193) as usize] = cases::byte(v[2]);
+    }
+
+    fn set_slot(&mut self, v: [u64; 16]) {
+        self.slots[(v[1] % 33) as usize] = Slot {
+            head: head_of(v),
+            last: cases::four(v[7]),
+            steps: cases::byte(v[8]),
+            figures: figures_of(v),
+        };
+    }
+
+    // What a line does.
+    fn send(&mut self, line: &[u8], word: Word, v: [u64; 16]) {
+        let mut out = [0u8; 4096];
+        let size = put_line(&mut out, line, word, v);
+        let bytes = wire::part(&out, 0, size);
+        match word {
+            Word::Sheet | Word::Empty => {
+                *self = Bench::empty();
+                self.take(bytes);
+            }
+            Word::Stepped => self.take(bytes),
+            Word::Open | Word::Step | Word::Close | Word::Hex | Word::Nothing => self.serve(bytes),
+            Word::Slot => {
+                self.set_slot(v);
+                self.serve(bytes);
+            }
+            Word::Lent => self.resize(v),
+            Word::Used => self.set_used(v),
+            _ => {}
+        }
+    }
+
+    // The answer, or what is looked at.
+    fn print(&self, out: &impl Print, word: Word, at: u64) {
+        match word {
+            Word::Look => print_slot(out, self.slots[(at % 33) as usize]),
+            Word::Byte => cases::write_number(out, self.map[(at % 8193) as usize]),
+            Word::Row => print_row(out, self.ledger, at),
+            Word::Customers => {
+                cases::write_number(out, cells_of(self.ledger, at)[0].customers.0);
+            }
+            Word::Halves => cases::write_number(out, cells_of(self.ledger, at)[0].halves.0),
+            _ => cases::write_number(out, self.answer),
+        }
+    }
+
+    // A line with a name.
+    fn take_named(&mut self, out: &impl Print, name: &[u8], body: &[u8]) {
+        cases::write(out, name);
+        let word = word_of(body);
+        let v = values_of(out, body);
+        self.send(body, word, v);
+        self.print(out, word, v[1]);
+    }
+
+    fn take_line(&mut self, out: &impl Print, line: &[u8]) {
+        let colon = line.iter().position(|b| *b == b':');
+        match Line::told(line, colon.unwrap_or(line.len())) {
+            Line::Passed => {}
+            Line::Heading => cases::write_line(out, line),
+            Line::Trial { name, body } => {
+                let mut after = *self;
+                after.take_named(out, name, body);
+                cases::write(out, b"\n");
+            }
+            Line::Kept { name, body } => {
+                self.take_named(out, name, body);
+                cases::write(out, b"\n");
+            }
+            Line::Joined { name, body } => self.take_named(out, name, body),
+            Line::Plain => self.send(line, word_of(line), values_of(out, line)),
+        }
+    }
 }
 
 // Each line ends with a newline.
-fn run(out: &impl Print, text: &[u8]) {
-    let mut b = empty();
-    let mut start: usize = 0;
-    while start < text.len() {
-        let past = past_line(text, start);
-        b = take_line(out, b, wire::part(text, start, past - 1));
-        start = past;
-    }
-}
-
 fn main(rt: HostRuntime) {
     let mut text = [0u8; 65536];
     let n = refill::read_full(&mut rt.stdin(), &mut text);
-    run(&rt, &text[..n]);
+    let mut bench = Bench::empty();
+    let mut start = 0;
+    while start < n {
+        let past = cases::past_line(&text[..n], start);
+        bench.take_line(&rt, &text[start..past - 1]);
+        start = past;
+    }
 }

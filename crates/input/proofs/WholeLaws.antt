@@ -1,21 +1,29 @@
 -- All the pieces that have come are one run of bytes, and the end of the feed is what `book` answers to them: 2^40 turns of 65,536 bytes are fewer than 2^62,
 -- so that their refused records are counted. Assumes nothing.
 use Prim.Native.Nat.{ℕ}
-use mathlib.Core.Path.{◌≡◌}
+use mathlib.Core.Path.{◌≡◌, refl, sym, ap, ◌∙◌, subst}
 use mathlib.Core.Bool.{true, false, ◌||◌, not}
 use mathlib.Core.List.{List}
 use native.Mathlib.Omega.{arith}
 use lib.ListN.{length, replicate, length-replicate}
 use borrow.Author.Tests.{eq-eqb}
+use Rattle.std.specs.Prelude.{Result, Ok, Err}
+use Rattle.std.specs.Result.{IsOk}
 use Rattle.wire.specs.Cut.{joined}
 use Rattle.used_numbers.specs.Marks.{map_size}
+use Rattle.refusals.specs.declared.Refusal.{Refusal}
+use Rattle.refusals.proofs.NumberLaws.{no_refusal_0}
+use Rattle.ledger.specs.declared.Ledger.{Ledger}
 use Rattle.ledger.specs.Ledger.{empty_ledger}
 use Rattle.ledger.specs.Sound.{sound_ledger}
 use Rattle.ledger.specs.Take.{unsound}
-use Rattle.book.specs.Book.{starting, take_record, read_of}
+use Rattle.book.specs.declared.Read.{Read as Outcome}
+use Rattle.book.specs.Book.{Read, starting, take_record, read_in, read_of}
+use Rattle.book.proofs.RunLaws.{read_through}
 use Rattle.refill.specs.Arrive.{most_turns, Arrived}
+use Rattle.refill.proofs.ArriveLaws.{arrives_none}
 use Rattle.book_pieces.specs.declared.Feed.{Feed}
-use Rattle.book_pieces.specs.Feed.{reading_of, finished_of}
+use Rattle.book_pieces.specs.Feed.{begun_of, reading_of, finished_in, finished_of}
 use Rattle.book_pieces.proofs.LinkLaws.{finish_whole, count_fits}
 
 abbrev zeros : List ℕ
@@ -33,3 +41,28 @@ pub arrived_whole :
 arrived_whole f m b a =
     let few = count_fits empty_ledger zeros a.pieces f m b a.holds (omega (arith, a.few)) in
     (joined a.pieces, finish_whole empty_ledger zeros a.pieces f m b a.holds few empty_sound)
+
+-- a feed that begins from the empty ledger has had no turn
+pub begun_arrived :
+    (f : Feed) (l : Ledger) (b : List ℕ) → f ≡ begun_of l → l ≡ empty_ledger → Arrived take_record (starting empty_ledger zeros) (reading_of f zeros) b 0
+begun_arrived f l b begun empty =
+    subst (λ (x : Feed). Arrived take_record (starting empty_ledger zeros) (reading_of x zeros) b 0) (sym (begun ∙ ap begun_of empty))
+    (arrives_none take_record (starting empty_ledger zeros) b)
+
+-- and such a feed is never refused at the end
+module _ (f : Feed) (m b : List ℕ) (a : Arrived take_record (starting empty_ledger zeros) (reading_of f m) b most_turns) where
+  module _ (x : Result Outcome Refusal) (e : finished_in f x ≡ finished_of f) where
+    answered_0 : (finished_in f x).answer ≡ 0
+    answered_0 =
+        let w = arrived_whole f m b a in
+        ap (λ (r : Read). r.answer) (e ∙ w.1 ∙ (read_through empty_ledger zeros w.0 empty_sound).0)
+
+  pub is_read : (x : Result Outcome Refusal) → finished_in f x ≡ finished_of f → IsOk x
+  is_read (Ok r) e = refl
+  is_read (Err refusal) e = absurd (no_refusal_0 refusal (answered_0 (Err refusal) e))
+
+  pub read_is :
+      (x : Result Outcome Refusal) → finished_in f x ≡ finished_of f →
+      (read : Outcome) → x ≡ Ok read →
+      ((bytes : List ℕ) × (read_in empty_ledger (Ok read) ≡ read_of empty_ledger zeros bytes))
+  read_is x e read is = let w = arrived_whole f m b a in (w.0, ap (finished_in f) (sym is) ∙ e ∙ w.1)

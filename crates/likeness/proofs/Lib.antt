@@ -1,2 +1,3 @@
 pub mod LikenessLaws
+pub mod NumberLaws
 pub mod OneOutcome

@@ -3,37 +3,43 @@ use Prim.Native.Nat.{ℕ, ◌+◌, ◌<◌, ◌≤◌}
 use mathlib.Core.Path.{◌≡◌, refl, sym, ap, ◌∙◌}
 use mathlib.Core.Bool.{Bool, true, false, ◌&&◌, and-false}
 use mathlib.Core.List.{List, [], ◌∷◌}
-use lib.Dec.{eqb}
+use lib.Dec.{eqb, ltb, leb}
 use lib.ListN.{length, drop, get_or, drop_of_length-le}
 use lib.Seq.{drop-cons}
 use native.Mathlib.Omega.{arith}
 use native.Mathlib.Numerals.{add-one}
-use borrow.Author.Tests.{ne_eqb, eq-eqb}
+use borrow.Author.Tests.{lt-ltb, le-ltb, leb-true, leb-false}
+use Rattle.std.specs.Char.{to_ascii_lowercase}
+use Rattle.std.specs.List.{list_all, zip}
+use Rattle.base.proofs.TestLaws.{Tested, holds, fails, test}
 use Rattle.text_scan.specs.Scan.{is_gap, parted_here}
 use Rattle.likeness.specs.Likeness.{is_letter, lowered, begins_alike, is_alike, letters_in}
 
--- a line that is shorter than a word
+-- the library's small letter is that of the definition
+lowered_is : (b : ℕ) → to_ascii_lowercase b ≡ lowered b
+unfolding lowered
+lowered_is b = go (test (ltb b 65)) (test (leb b 90))
+  where
+    go : Tested (ltb b 65) → Tested (leb b 90) → to_ascii_lowercase b ≡ lowered b
+    go (holds e) t = rw e refl
+    go (fails e) (holds f) = let g : ltb b 91 ≡ true = lt-ltb b 91 (omega (arith, leb-true b 90 f)) in rw (e, f, g) refl
+    go (fails e) (fails f) = let g : ltb b 91 ≡ false = le-ltb b 91 (omega (arith, leb-false b 90 f)) in rw (e, f, g) refl
+
+-- a byte of a line and one of a word: the same, in whichever letters
+abbrev pub same_letters : ℕ × ℕ → Bool
+same_letters p = eqb (to_ascii_lowercase p.0) p.1
+
+-- a line begins with a word where it is as long, and each byte is the same in whichever letters
 pub alike_short : (s w : List ℕ) → length s < length w → begins_alike s w ≡ false
 alike_short s [] h = let no : ⊥ = omega arith in absurd no
 alike_short [] (w ∷ ws) h = refl
 alike_short (b ∷ s) (w ∷ ws) h = let g : length s < length ws = omega arith in ap (λ t. eqb (lowered b) w && t) (alike_short s ws g) ∙ and-false (eqb (lowered b) w)
 
--- what is left of a line and of a word, by their first bytes
-module _ (s w : List ℕ) (i : ℕ) where
-  alike_step : i < length s → i < length w → begins_alike (drop i s) (drop i w) ≡ (eqb (lowered (get_or s i 0)) (get_or w i 0) && begins_alike (drop (i + 1) s) (drop (i + 1) w))
-  alike_step h g = rw (add-one i, drop-cons s i 0 h, drop-cons w i 0 g) refl
-
-  -- where the line's byte at a place, made small, is not the word's, the rest of the line from there does not begin with the rest of the word
-  pub alike_parts : i < length s → i < length w → (lowered (get_or s i 0) ≡ get_or w i 0 → ⊥) → begins_alike (drop i s) (drop i w) ≡ false
-  alike_parts h g ne = alike_step h g ∙ ap (λ (t : Bool). t && begins_alike (drop (i + 1) s) (drop (i + 1) w)) (ne_eqb (lowered (get_or s i 0)) (get_or w i 0) ne)
-
-  -- where it is, the rests from the next place on tell it
-  pub alike_next : i < length s → i < length w → lowered (get_or s i 0) ≡ get_or w i 0 → begins_alike (drop i s) (drop i w) ≡ begins_alike (drop (i + 1) s) (drop (i + 1) w)
-  alike_next h g e = alike_step h g ∙ ap (λ (t : Bool). t && begins_alike (drop (i + 1) s) (drop (i + 1) w)) (eq-eqb (lowered (get_or s i 0)) (get_or w i 0) e)
-
-  -- where nothing of the word is left, any rest of a line begins with it
-  pub alike_whole : length w ≤ i → begins_alike (drop i s) (drop i w) ≡ true
-  alike_whole h = ap (begins_alike (drop i s)) (drop_of_length-le w {i = i} h)
+pub alike_all : (s w : List ℕ) → length w ≤ length s → list_all same_letters (zip s w) ≡ begins_alike s w
+alike_all [] [] h = refl
+alike_all (b ∷ s) [] h = refl
+alike_all [] (w ∷ ws) h = absurd (omega arith)
+alike_all (b ∷ s) (w ∷ ws) h = let g : length ws ≤ length s = omega arith in λ i. eqb (lowered_is b i) w && alike_all s ws g i
 
 -- a word in front, by its two tests
 module _ (s w : List ℕ) where

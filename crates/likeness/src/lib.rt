@@ -1,103 +1,56 @@
 // What stands in a refused line in the place of what was expected: what spreadsheets and people write often, so that it can be named.
-#![tactic(auto)]
+#![tactic(auto, unfolding(crate::specs::Likeness::is_letter, crate::specs::Likeness::is_header, crate::specs::Likeness::is_mark, crate::specs::Likeness::any_alike, crate::specs::Likeness::word_like, crate::specs::Likeness::item_like, crate::specs::Likeness::marks_time, crate::specs::Likeness::time_goes_on, crate::specs::Likeness::gap_like, crate::specs::Likeness::likeness_of))]
 
-ghost use Rattle.std.specs.Prelude.{◌≡◌, ◌&&◌, ◌||◌, false, eqb};
+ghost use Rattle.std.specs.Prelude.{◌≡◌, ◌||◌, false, eqb};
+ghost use Rattle.text_items.specs.Sorts.{item_number};
+ghost use Rattle.text_scan.specs.Outcomes.{expected_number};
 ghost use Rattle.likeness.specs.Likeness.{is_letter, begins_alike, any_alike, letters_in, word_like, item_like, marks_time, time_goes_on, gap_like, likeness_of};
+ghost use Rattle.likeness.specs.Numbers.{like_number};
 
-// What it is; 0 where it is none of these.
-pub const BYTE_ORDER_MARK: u8 = 1;
+use text_items::Item;
+use text_scan::Expected;
 
-pub const QUOTED: u8 = 2;
-
-pub const CAPITALS: u8 = 3;
-
-pub const HEADER: u8 = 4;
-
-pub const OTHER_TIME: u8 = 5;
+#[derive(Clone, Copy, Debug, PartialEq, Eq)]
+pub enum Likeness {
+    ByteOrderMark,
+    Quoted,
+    Capitals,
+    Header,
+    OtherTime,
+}
 
 // Whether a byte is a letter of ASCII, or past it: those of other alphabets.
 fn is_letter(b: u8) -> bool
     ensures { result ≡ Rattle.likeness.specs.Likeness.is_letter b }
 {
-    if b < 65 {
-        return false;
-    }
-    if b <= 90 {
-        return true;
-    }
-    if b < 97 {
-        return false;
-    }
-    if b <= 122 {
-        return true;
-    }
-    128 <= b
-}
-
-// A capital letter as a small one, and any other byte as it is.
-fn lowered(b: u8) -> u8
-    ensures { result ≡ Rattle.likeness.specs.Likeness.lowered b }
-{
-    if b < 65 {
-        return b;
-    }
-    if b <= 90 {
-        return b + 32;
-    }
-    b
+    b.is_ascii_alphabetic() || 128 <= b
 }
 
 // Whether a line begins with a word, in whichever letters.
 fn begins_alike(s: &[u8], word: &[u8]) -> bool
     ensures { result ≡ begins_alike s.now word.now }
 {
-    if s.len() < word.len() {
-        return false;
-    }
-    let mut i = 0;
-    while i < word.len() {
-        if lowered(s[i]) != word[i] {
-            return false;
-        }
-        i += 1;
-    }
-    true
+    word.len() <= s.len()
+        && s.iter()
+            .zip(word)
+            .all(|(b, w)| b.to_ascii_lowercase() == *w)
 }
 
 // Whether a word stands in front, in whichever letters, parted from what follows.
 fn is_alike(s: &[u8], word: &[u8]) -> bool
     ensures { result ≡ Rattle.likeness.specs.Likeness.is_alike s.now word.now }
 {
-    if !begins_alike(s, word) {
-        return false;
-    }
-    text_scan::parted_here(wire::part(s, word.len(), s.len()))
+    begins_alike(s, word) && text_scan::parted_here(wire::part(s, word.len(), s.len()))
 }
 
 // Whether one of the four words stands in front, in whichever letters.
 fn any_alike(s: &[u8]) -> bool
     ensures { result ≡ any_alike s.now }
 {
-    if is_alike(s, b"sheet") {
-        return true;
-    }
-    if is_alike(s, b"simple") {
-        return true;
-    }
-    if is_alike(s, b"stepped") {
-        return true;
-    }
-    is_alike(s, b"hex")
-}
-
-// Whether a letter stands behind a gap.
-fn letter_behind(behind: bool, b: u8) -> bool
-    ensures { result ≡ (behind && is_letter b) }
-{
-    if !behind {
-        return false;
-    }
-    is_letter(b)
+    is_alike(s, b"sheet")
+        || is_alike(s, b"simple")
+        || is_alike(s, b"stepped")
+        || is_alike(s, b"hex")
 }
 
 // Whether an item behind the first begins with a letter, before the comment.
@@ -105,17 +58,14 @@ fn letters_in(s: &[u8]) -> bool
     ensures { result ≡ letters_in false s.now }
 {
     let mut behind = false;
-    let mut i = 0;
-    while i < s.len() {
-        let b = s[i];
-        if b == 35 {
+    for &b in s {
+        if b == b'#' {
             return false;
         }
-        if letter_behind(behind, b) {
+        if behind && is_letter(b) {
             return true;
         }
         behind = text_scan::is_gap(b);
-        i += 1;
     }
     false
 }
@@ -124,126 +74,92 @@ fn letters_in(s: &[u8]) -> bool
 fn is_header(s: &[u8]) -> bool
     ensures { result ≡ Rattle.likeness.specs.Likeness.is_header s.now }
 {
-    if !is_letter(wire::byte_at(s, 0)) {
-        return false;
-    }
-    letters_in(s)
+    is_letter(wire::byte_at(s, 0)) && letters_in(s)
 }
 
 // Whether a byte-order mark stands in front.
 fn is_mark(s: &[u8]) -> bool
     ensures { result ≡ Rattle.likeness.specs.Likeness.is_mark s.now }
 {
-    if wire::byte_at(s, 0) != 239 {
-        return false;
-    }
-    if wire::byte_at(s, 1) != 187 {
-        return false;
-    }
-    wire::byte_at(s, 2) == 191
+    matches!(s, [239, 187, 191, ..])
 }
 
 // What stands in a word's place.
-fn word_like(s: &[u8]) -> u8
-    ensures { result ≡ word_like s.now }
+fn word_like(s: &[u8]) -> Option<Likeness>
+    ensures { like_number result ≡ word_like s.now }
 {
     if is_mark(s) {
-        return BYTE_ORDER_MARK;
+        return Some(Likeness::ByteOrderMark);
     }
-    if wire::byte_at(s, 0) == 34 {
-        return QUOTED;
+    if wire::byte_at(s, 0) == b'"' {
+        return Some(Likeness::Quoted);
     }
     if any_alike(s) {
-        return CAPITALS;
+        return Some(Likeness::Capitals);
     }
     if is_header(s) {
-        return HEADER;
+        return Some(Likeness::Header);
     }
-    0
+    None
 }
 
 // What stands in an item's place.
-fn item_like(s: &[u8], answer: u8) -> u8
-    ensures { result ≡ item_like s.now answer }
+fn item_like(s: &[u8], expected: Expected) -> Option<Likeness>
+    ensures { like_number result ≡ item_like s.now (expected_number expected) }
 {
     let first = wire::byte_at(s, 0);
-    if first == 34 {
-        return QUOTED;
+    if first == b'"' {
+        return Some(Likeness::Quoted);
     }
-    if answer != text_scan::TIME {
-        return 0;
+    if expected == Expected::Time && text_scan::is_digit(first) {
+        return Some(Likeness::OtherTime);
     }
-    if text_scan::is_digit(first) {
-        return OTHER_TIME;
-    }
-    0
+    None
 }
 
 // Whether a byte stands between the numbers of a day or of an hour: a dash, a point, a stroke or a colon.
 fn marks_time(b: u8) -> bool
     ensures { result ≡ marks_time b }
 {
-    if b == 45 {
-        return true;
-    }
-    if b == 46 {
-        return true;
-    }
-    if b == 47 {
-        return true;
-    }
-    b == 58
+    matches!(b, b'-' | b'.' | b'/' | b':')
 }
 
 // Whether a day or an hour goes on: such a byte, and a digit.
 fn time_goes_on(s: &[u8]) -> bool
     ensures { result ≡ time_goes_on s.now }
 {
-    if !marks_time(wire::byte_at(s, 0)) {
-        return false;
-    }
-    text_scan::is_digit(wire::byte_at(s, 1))
+    marks_time(wire::byte_at(s, 0)) && text_scan::is_digit(wire::byte_at(s, 1))
 }
 
 // What stands behind an item of a sort.
-fn gap_like(s: &[u8], item: u8) -> u8
-    ensures { result ≡ gap_like s.now item }
+fn gap_like(s: &[u8], item: Item) -> Option<Likeness>
+    ensures { like_number result ≡ gap_like s.now (item_number item) }
 {
-    if item != text_items::TIME {
-        return 0;
+    if item == Item::Time && time_goes_on(s) {
+        return Some(Likeness::OtherTime);
     }
-    if time_goes_on(s) {
-        return OTHER_TIME;
-    }
-    0
+    None
 }
 
 // Whether an item was expected where it does not stand: a number, a time or two hexadecimal digits.
-fn asks_item(answer: u8) -> bool
-    ensures { result ≡ (eqb answer 2 || (eqb answer 6 || eqb answer 9)) }
+fn asks_item(expected: Expected) -> bool
+    ensures { result ≡ (eqb (expected_number expected) 2 || (eqb (expected_number expected) 6 || eqb (expected_number expected) 9)) }
 {
-    if answer == text_scan::NUMBER {
-        return true;
-    }
-    if answer == text_scan::TIME {
-        return true;
-    }
-    answer == text_scan::TWO_DIGITS
+    matches!(
+        expected,
+        Expected::Number | Expected::Time | Expected::TwoDigits
+    )
 }
 
-// What stands at a place of a line that was refused there: its answer says what was expected, and the year is that of the sheet before it.
-pub fn likeness_of(line: &[u8], at: usize, answer: u8, year: u16) -> u8
-    ensures { result ≡ likeness_of line.now at answer year }
+// What stands at a place of a line that was refused there, by what was expected; the year is that of the sheet before it.
+pub fn likeness_of(line: &[u8], at: usize, expected: Expected, year: u16) -> Option<Likeness>
+    ensures { like_number result ≡ likeness_of line.now at (expected_number expected) year }
 {
     let s = wire::part(line, at, line.len());
-    if answer == text_scan::WORD {
-        return word_like(s);
+    match expected {
+        Expected::Word => word_like(s),
+        Expected::Gap => gap_like(s, text_parse::item_refused(line, year)),
+        _ if asks_item(expected) => item_like(s, expected),
+        _ => None,
     }
-    if answer == text_scan::GAP {
-        return gap_like(s, text_parse::item_refused(line, year));
-    }
-    if asks_item(answer) {
-        return item_like(s, answer);
-    }
-    0
 }

@@ -2,14 +2,14 @@
 use Prim.Native.Nat.{ℕ, suc, ◌+◌, ◌<◌, ◌≤◌}
 use mathlib.Core.Path.{◌≡◌, refl, sym, ap, ◌∙◌}
 use mathlib.Core.List.{List, [], ◌∷◌, ◌++◌, append-nil}
-use lib.ListN.{length, length-append, length-set, set, drop, get_or, drop_of_length-le}
-use lib.Seq.{drop-cons, set-append_seam, append_snoc}
+use lib.ListN.{length, length-append, length-set, set, drop}
+use lib.Seq.{set-append_seam, append_snoc}
 use lib.Dec.{leb}
 use native.Mathlib.Omega.{arith}
-use native.Mathlib.Numerals.{add-one}
 use borrow.Author.Tests.{leb-true, leb-false, lt-leb, le-leb}
 use Rattle.base.proofs.TestLaws.{Tested, holds, fails, test}
-use Rattle.pen.specs.Pen.{Spot, spot, pushed, pushed_all}
+use Rattle.pen.specs.declared.Pen.{Pen}
+use Rattle.pen.specs.Pen.{Spot, spot, pushed, pushed_all, inked}
 
 -- a full buffer is as it was, and any other has the byte at the place
 pub full_stays : (s : Spot) (b : ℕ) → length s.bytes ≤ s.at → pushed s b ≡ s
@@ -20,20 +20,16 @@ pub room_takes : (s : Spot) (b : ℕ) → s.at < length s.bytes → pushed s b �
 unfolding pushed
 room_takes s b h = rw (lt-leb (length s.bytes) s.at h) refl
 
-pub one_pushed : (s : Spot) (b : ℕ) → pushed_all s (b ∷ []) ≡ pushed s b
-one_pushed s b = refl
-
 -- two pieces one after the other are their joined bytes
 pub pushed_all_append : (s : Spot) (a b : List ℕ) → pushed_all s (a ++ b) ≡ pushed_all (pushed_all s a) b
 pushed_all_append s [] b = refl
 pushed_all_append s (x ∷ a) b = pushed_all_append (pushed s x) a b
 
--- what is left of some words, and its first byte
-pub next_pushed : (s : Spot) (i : ℕ) (words : List ℕ) → i < length words → pushed_all s (drop i words) ≡ pushed_all (pushed s (get_or words i 0)) (drop (i + 1) words)
-next_pushed s i words h = rw (add-one, drop-cons words i 0) refl
-
-pub none_pushed : (s : Spot) (i : ℕ) (words : List ℕ) → length words ≤ i → pushed_all s (drop i words) ≡ s
-none_pushed s i words h = rw (drop_of_length-le words h) refl
+-- and so with a pen
+pub inked_append : (p : Pen) (a b : List ℕ) → inked (inked p a) b ≡ inked p (a ++ b)
+inked_append p a b =
+    let joined : pushed_all (pushed_all (spot p.out.now p.at) a) b ≡ pushed_all (spot p.out.now p.at) (a ++ b) = sym (pushed_all_append (spot p.out.now p.at) a b) in
+    λ i. record { out = record { ref_ptr = p.out.ref_ptr; ghost_name = p.out.ghost_name; now = (joined i).bytes }; at = (joined i).at }
 
 -- the buffer is as long as it was
 pub one_size : (s : Spot) (b : ℕ) → length (pushed s b).bytes ≡ length s.bytes

@@ -1,5 +1,6 @@
 -- Bytes written one after the other into a buffer, and what numbers look like in hexadecimal digits.
 use Rattle.std.specs.Prelude.{ℕ, ◌+◌, ◌/◌, ◌%◌, List, [], ◌∷◌, cond, length, set, ltb, leb}
+use Rattle.pen.specs.declared.Pen.{Pen}
 
 -- a buffer, and the place of the next byte
 pub record Spot : Type 0 where
@@ -23,3 +24,9 @@ hex_digit d = cond (ltb d 10) (48 + d) (87 + d)
 
 abbrev pub hex_text : ℕ → List ℕ
 hex_text n = hex_digit (n / 16 % 16) ∷ hex_digit (n % 16) ∷ []
+
+-- the pen with some bytes written: it holds the same buffer
+abbrev pub inked : Pen → List ℕ → Pen
+inked p bs =
+    let s : Spot = pushed_all (spot p.out.now p.at) bs in
+    record { out = record p.out { now = s.bytes }; at = s.at }

@@ -1,54 +1,81 @@
-// Bytes written one after the other into a lent buffer. Each function takes the place of the next byte and hands back the place after what it wrote; what
-// does not fit is left out.
+// Bytes written one after the other into a lent buffer.
 #![tactic(auto)]
 
-ghost use Rattle.std.specs.Prelude.{◌%◌, ◌≡◌};
-ghost use Rattle.pen.specs.Pen.{spot, pushed, pushed_all, hex_digit, hex_text};
+ghost use Rattle.std.specs.Prelude.{◌%◌, ◌≡◌, [], ◌∷◌};
+ghost use Rattle.pen.specs.Pen.{inked, hex_digit, hex_text};
 ghost use Rattle.wire.specs.Numbers.{le2, le4};
 ghost use Rattle.text.specs.Text.{number_text, two_text};
 
-// One byte.
-pub fn put(out: &mut [u8], at: usize, b: u8) -> usize
-    ensures { spot out.new result ≡ pushed (spot out.old at) b }
-{
-    if out.len() <= at {
-        return at;
-    }
-    out[at] = b;
-    at + 1
+// A lent buffer, and the place of the next byte. What does not fit is left out.
+#[derive(Drop)]
+pub struct Pen<'a> {
+    pub out: &'a mut [u8],
+    pub at: usize,
 }
 
-// Some words.
-pub fn put_words(out: &mut [u8], at: usize, words: &[u8]) -> usize
-    ensures { spot out.new result ≡ pushed_all (spot out.old at) words.now }
-{
-    let mut to = at;
-    let mut i = 0;
-    while i < words.len() {
-        let b = words[i];
-        to = put(out, to, b);
-        i += 1;
+impl Pen<'_> {
+    // One byte.
+    #[tactic(auto, unfolding(crate::specs::Pen::pushed))]
+    pub fn put(&mut self, b: u8)
+        ensures { self.new ≡ inked self.old (b ∷ []) }
+    {
+        if self.at < self.out.len() {
+            self.out[self.at] = b;
+            self.at += 1;
+        }
     }
-    to
-}
 
-// A number in decimal digits, the most significant first.
-pub fn put_number(out: &mut [u8], at: usize, n: u32) -> usize
-    ensures { spot out.new result ≡ pushed_all (spot out.old at) (number_text n) }
-{
-    if n < 10 {
-        return put(out, at, 48 + n as u8);
+    // Some words.
+    pub fn put_words(&mut self, words: &[u8])
+        ensures { self.new ≡ inked self.old words.now }
+    {
+        for &b in words {
+            self.put(b);
+        }
     }
-    let to = put_number(out, at, n / 10);
-    put(out, to, 48 + (n % 10) as u8)
-}
 
-// The last two decimal digits of a number.
-pub fn put_two(out: &mut [u8], at: usize, n: u32) -> usize
-    ensures { spot out.new result ≡ pushed_all (spot out.old at) (two_text n) }
-{
-    let to = put(out, at, 48 + (n / 10 % 10) as u8);
-    put(out, to, 48 + (n % 10) as u8)
+    // A number in decimal digits, the most significant first.
+    pub fn put_number(&mut self, n: u32)
+        ensures { self.new ≡ inked self.old (number_text n) }
+    {
+        if n < 10 {
+            return self.put(48 + n as u8);
+        }
+        self.put_number(n / 10);
+        self.put(48 + (n % 10) as u8);
+    }
+
+    // The last two decimal digits of a number.
+    pub fn put_two(&mut self, n: u32)
+        ensures { self.new ≡ inked self.old (two_text n) }
+    {
+        self.put(48 + (n / 10 % 10) as u8);
+        self.put(48 + (n % 10) as u8);
+    }
+
+    // The last two hexadecimal digits of a number.
+    pub fn put_hex(&mut self, n: u32)
+        ensures { self.new ≡ inked self.old (hex_text n) }
+    {
+        self.put(hex_digit((n / 16 % 16) as u8));
+        self.put(hex_digit((n % 16) as u8));
+    }
+
+    // The lowest two bytes of a number, the lowest first.
+    pub fn put_le2(&mut self, n: u32)
+        ensures { self.new ≡ inked self.old (le2 n) }
+    {
+        self.put((n % 256) as u8);
+        self.put((n / 256 % 256) as u8);
+    }
+
+    // The four bytes of a number, the lowest first.
+    pub fn put_le4(&mut self, n: u32)
+        ensures { self.new ≡ inked self.old (le4 n) }
+    {
+        self.put_le2(n);
+        self.put_le2(n / 65536);
+    }
 }
 
 // The hexadecimal digit of a number below 16.
@@ -57,28 +84,4 @@ fn hex_digit(d: u8) -> u8
 {
     let low = d % 16;
     if low < 10 { 48 + low } else { 87 + low }
-}
-
-// The last two hexadecimal digits of a number.
-pub fn put_hex(out: &mut [u8], at: usize, n: u32) -> usize
-    ensures { spot out.new result ≡ pushed_all (spot out.old at) (hex_text n) }
-{
-    let to = put(out, at, hex_digit((n / 16 % 16) as u8));
-    put(out, to, hex_digit((n % 16) as u8))
-}
-
-// The lowest two bytes of a number, the lowest first.
-pub fn put_le2(out: &mut [u8], at: usize, n: u32) -> usize
-    ensures { spot out.new result ≡ pushed_all (spot out.old at) (le2 n) }
-{
-    let to = put(out, at, (n % 256) as u8);
-    put(out, to, (n / 256 % 256) as u8)
-}
-
-// The four bytes of a number, the lowest first.
-pub fn put_le4(out: &mut [u8], at: usize, n: u32) -> usize
-    ensures { spot out.new result ≡ pushed_all (spot out.old at) (le4 n) }
-{
-    let to = put_le2(out, at, n);
-    put_le2(out, to, n / 65536)
 }

@@ -14,7 +14,7 @@ use Rattle.wire.specs.Numbers.{byte_at}
 use Rattle.text_items.specs.Shape.{item_of, most_of, whole_of, bar_before, entry_of, limit_of, within_from}
 use Rattle.text_items.proofs.ShapeLaws.{most_small, whole_sheet, whole_simple, whole_stepped, whole_bytes}
 use Rattle.text_scan.specs.Scan.{is_gap, said_at, gaps_in, ends_here, parted_here}
-use Rattle.text_parse.specs.declared.Parsed.{Parsed}
+use Rattle.text_parse.specs.Records.{Parsed}
 use Rattle.text_parse.specs.Entry.{is_word, word_text, word_as, word_of, parted_item, next_field, gap_before, next_cell, values_from, end_from, ended_by, gathered, parsed_of}
 use Rattle.text_write.specs.Line.{item_text, gap_text, items_text, line_text}
 use Rattle.text_back.proofs.Written.{line_celless}

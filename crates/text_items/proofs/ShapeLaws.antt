@@ -1,7 +1,10 @@
 -- What a whole line of each sort has, in numbers. Assumes nothing.
 use Prim.Native.Nat.{ℕ, zero, suc, ◌+◌, ◌-◌, ◌*◌, ◌/◌, ◌%◌, ◌≤◌}
-use mathlib.Core.Path.{◌≡◌, refl, sym, subst, ◌∙◌}
+use mathlib.Core.Path.{◌≡◌, refl, sym, ap, subst, ◌∙◌}
 use mathlib.Core.Bool.{Bool, true, false, cond}
+use mathlib.Core.List.{List}
+use lib.ListN.{length, take}
+use lib.Seq.{length-take-le}
 use lib.Dec.{T, eqb, ltb, leb}
 use native.Mathlib.Omega.{arith}
 use borrow.Author.Tests.{eqb-true, eqb-false, ltb-false, leb-true}
@@ -49,6 +52,9 @@ whole_stepped count e =
     let fours : (count - 5) % 4 ≡ 0 = eqb-true ((count - 5) % 4) 0 many.1 in
     (least, ltb-false 261 count many.0, omega arith)
 
+pub stepped_least : (count : ℕ) → whole_of 3 count ≡ true → 9 ≤ count
+stepped_least count e = (whole_stepped count e).0
+
 -- a line of bytes has 1 to 32 of them
 pub whole_bytes : (count : ℕ) → whole_of 4 count ≡ true → (1 ≤ count) × (count ≤ 32)
 unfolding whole_of
@@ -74,3 +80,22 @@ whole_sort kind count e a b c = go (test (eqb kind 4))
     go (fails d) =
         let none : cond (eqb count 0) false (eqb count 0) ≡ true = sym (rw (whole_of, most_of, a, b, c, d) refl) ∙ e in
         absurd (never (eqb count 0) none)
+
+-- a whole line has at most 261 items
+pub whole_few : (kind count : ℕ) → whole_of kind count ≡ true → count ≤ 261
+unfolding whole_of
+whole_few kind count e = go (test (eqb kind 3)) (test (eqb kind 4))
+  where
+    go : Tested (eqb kind 3) → Tested (eqb kind 4) → count ≤ 261
+    go (holds a) b = (whole_stepped count (ap (λ (n : ℕ). whole_of n count) (sym (eqb-true kind 3 a)) ∙ e)).1
+    go (fails a) (holds b) = omega (arith, (whole_bytes count (ap (λ (n : ℕ). whole_of n count) (sym (eqb-true kind 4 b)) ∙ e)).1)
+    go (fails a) (fails b) =
+        let other : cond (eqb count 0) false (eqb count (most_of kind)) ≡ true = sym (rw (whole_of, a, b) refl) ∙ e in
+        let most : count ≡ most_of kind = eqb-true count (most_of kind) (past (eqb count 0) (eqb count (most_of kind)) other).1 in
+        omega (arith, most_small kind)
+
+-- the items of a whole line among an entry's numbers are as many as it has
+pub whole_items : (kind count : ℕ) (vs : List ℕ) → length vs ≡ 261 → whole_of kind count ≡ true → whole_of kind (length (take count vs)) ≡ true
+whole_items kind count vs all e =
+    let few : count ≤ 261 = whole_few kind count e in
+    ap (whole_of kind) (length-take-le count vs (omega arith)) ∙ e

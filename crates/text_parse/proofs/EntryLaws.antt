@@ -1,21 +1,31 @@
 -- The cases of the readings of a line, one law each: a word in front, the next item, and the items that are left once some are read. Assumes nothing.
 use Prim.Native.Nat.{ℕ, zero, suc, ◌+◌, ◌-◌, ◌<◌, ◌≤◌}
 use mathlib.Core.Path.{◌≡◌, refl, sym, ap, ◌∙◌, subst⁻¹}
-use mathlib.Core.Bool.{Bool, true, false, ◌&&◌, and-false, not, cond}
+use mathlib.Core.Bool.{Bool, true, false, false≢true, ◌&&◌, not, cond}
 use mathlib.Core.List.{List, [], ◌∷◌, ◌++◌}
 use lib.Dec.{eqb, ltb, leb}
-use lib.ListN.{length, take, drop, get_or, set, replicate, length-take, length-drop, length-replicate, drop_of_length-le}
-use lib.Seq.{drop-cons, drop-drop, sets, sets-eq}
+use lib.ListN.{length, take, drop, set, replicate, length-take, length-drop, length-replicate}
+use lib.Seq.{drop-drop, sets, sets-eq}
 use native.Mathlib.Omega.{arith}
-use native.Mathlib.Numerals.{add-one}
-use borrow.Author.Tests.{ne_eqb, eq-eqb}
+use borrow.Author.Tests.{ne_eqb, eq-eqb, eqb-true, eqb-false, leb-false}
+use Rattle.std.specs.Prelude.{Option, Some, None, unwrap_or, Result, Err}
+use Rattle.std.specs.List.{starts_with}
 use Rattle.base.proofs.TestLaws.{Tested, holds, fails, test}
+use Rattle.wire.specs.Book.{part_of}
 use Rattle.text_items.specs.Shape.{item_of, most_of, whole_of}
-use Rattle.text_scan.specs.declared.Found.{Found}
+use Rattle.text_scan.specs.Found.{Found}
 use Rattle.text_scan.specs.Scan.{read, said_at, gaps_in, ends_here, parted_here, separator_of, other_at, gap_said, item_found}
-use Rattle.text_scan.proofs.ScanLaws.{gaps_short, item_short, said_short}
-use Rattle.text_parse.specs.declared.Word.{Word}
-use Rattle.text_parse.specs.declared.Parsed.{Parsed}
+use Rattle.text_scan.proofs.ScanLaws.{part_is_rest, gaps_short, item_short, said_short}
+use Rattle.text_parse.specs.Records.{Word, Parsed}
+use Rattle.text_items.specs.declared.Entry.{Entry}
+use Rattle.text_items.specs.declared.Sort.TheVariants.{Blank}
+use Rattle.text_items.specs.Sorts.{sort_number}
+use Rattle.text_scan.specs.declared.Wrong.{Wrong}
+use Rattle.text_scan.specs.Outcomes.{expected_number, wrong_in}
+use Rattle.text_scan.proofs.OutcomeLaws.{wrong_answer, wrong_no_end}
+use Rattle.text_items.proofs.ShapeLaws.{most_small}
+use Rattle.text_parse.specs.declared.Word.{Word as Named}
+use Rattle.text_parse.specs.Outcomes.{word_in, placed, parsed_in}
 use Rattle.text_parse.specs.Entry.{begins_with, is_word, word_text, word_as, word_of, parted_item, next_field, item_due, gap_before, next_cell, values_from, end_from, refused_at, ended_by, gathered, parsed_of}
 
 -- a choice whose test is known
@@ -26,28 +36,19 @@ module _ {X : Type 0} (x y : X) where
   pub passed_over : (t : Bool) → t ≡ false → cond t x y ≡ y
   passed_over t e = ap (λ (u : Bool). cond u x y) e
 
--- a line that is shorter than a word
-pub begins_short : (s w : List ℕ) → length s < length w → begins_with s w ≡ false
-begins_short s [] h = let no : ⊥ = omega arith in absurd no
-begins_short [] (w ∷ ws) h = refl
-begins_short (b ∷ s) (w ∷ ws) h = let g : length s < length ws = omega arith in ap (λ t. eqb b w && t) (begins_short s ws g) ∙ and-false (eqb b w)
+-- a test of two numbers is the same either way round
+eqb_swapped : (m n : ℕ) → eqb m n ≡ eqb n m
+eqb_swapped m n = go (test (eqb m n))
+  where
+    go : Tested (eqb m n) → eqb m n ≡ eqb n m
+    go (holds e) = e ∙ sym (eq-eqb n m (sym (eqb-true m n e)))
+    go (fails e) = e ∙ sym (ne_eqb n m (λ same. eqb-false m n e (sym same)))
 
--- what is left of a line and of a word, by their first bytes
-module _ (s w : List ℕ) (i : ℕ) where
-  begins_step : i < length s → i < length w → begins_with (drop i s) (drop i w) ≡ (eqb (get_or s i 0) (get_or w i 0) && begins_with (drop (i + 1) s) (drop (i + 1) w))
-  begins_step h g = rw (add-one i, drop-cons s i 0 h, drop-cons w i 0 g) refl
-
-  -- where the bytes at a place differ, the rest of the line from there does not begin with the rest of the word
-  pub begins_parts : i < length s → i < length w → (get_or s i 0 ≡ get_or w i 0 → ⊥) → begins_with (drop i s) (drop i w) ≡ false
-  begins_parts h g ne = begins_step h g ∙ ap (λ (t : Bool). t && begins_with (drop (i + 1) s) (drop (i + 1) w)) (ne_eqb (get_or s i 0) (get_or w i 0) ne)
-
-  -- where they are the same, the rests from the next place on tell it
-  pub begins_next : i < length s → i < length w → get_or s i 0 ≡ get_or w i 0 → begins_with (drop i s) (drop i w) ≡ begins_with (drop (i + 1) s) (drop (i + 1) w)
-  begins_next h g e = begins_step h g ∙ ap (λ (t : Bool). t && begins_with (drop (i + 1) s) (drop (i + 1) w)) (eq-eqb (get_or s i 0) (get_or w i 0) e)
-
-  -- where nothing of the word is left, any rest of a line begins with it
-  pub begins_whole : length w ≤ i → begins_with (drop i s) (drop i w) ≡ true
-  begins_whole h = ap (begins_with (drop i s)) (drop_of_length-le w {i = i} h)
+-- the library's test of a line's front is that of the definition
+pub begins_is : (s w : List ℕ) → starts_with eqb s w ≡ begins_with s w
+begins_is s [] = refl
+begins_is [] (w ∷ ws) = refl
+begins_is (b ∷ s) (w ∷ ws) = λ i. eqb_swapped w b i && begins_is s ws i
 
 -- a word in front, by its two tests
 module _ (s w : List ℕ) where
@@ -209,6 +210,23 @@ module _ (s : List ℕ) (kind k year sep : ℕ) where
       go (holds g) = subst⁻¹ (λ (r : Found). r.used ≤ length s) (cell_right g) (next_short s kind k year)
       go (fails g) = subst⁻¹ (λ (r : Found). r.used ≤ length s) (cell_wrong g) (gap_short s kind k sep)
 
+-- an item that is read has room in the longest line
+pub cell_room : (s : List ℕ) (kind k year sep : ℕ) → eqb (next_cell s kind k year sep).answer 0 ≡ true → k < 261
+cell_room s kind k year sep there = go (test (eqb (gap_before s kind k sep).answer 0)) (test (ends_here (drop (gaps_in s) s))) (test (leb (most_of kind) k))
+  where
+    answer_of : (f : Found) → next_cell s kind k year sep ≡ f → eqb f.answer 0 ≡ true
+    answer_of f is = sym (ap (λ (r : Found). eqb r.answer 0) is) ∙ there
+
+    go : Tested (eqb (gap_before s kind k sep).answer 0) → Tested (ends_here (drop (gaps_in s) s)) → Tested (leb (most_of kind) k) → k < 261
+    go (fails g) e m = absurd (false≢true (sym g ∙ answer_of (gap_before s kind k sep) (cell_wrong s kind k year sep g)))
+    go (holds g) (holds e) m = absurd (false≢true (answer_of (said_at 255 (gaps_in s)) (cell_right s kind k year sep g ∙ next_ended s kind k year e)))
+    go (holds g) (fails e) (holds m) = absurd (false≢true (answer_of (said_at 11 (gaps_in s)) (cell_right s kind k year sep g ∙ next_over s kind k year e m)))
+    go (holds g) (fails e) (fails m) = omega (arith, leb-false (most_of kind) k m, most_small kind)
+
+-- what is left of a line from a place on is no longer than the line behind the place
+pub rest_fits : (line : List ℕ) (at : ℕ) (rest : List ℕ) → rest ≡ part_of line at (length line) → length rest ≡ length line - at
+rest_fits line at rest e = ap length (e ∙ part_is_rest line at) ∙ length-drop at line
+
 -- the numbers from the k-th item on, and what is said past them, by the k-th
 module _ (n : ℕ) (s : List ℕ) (kind k year sep : ℕ) where
   none_left : eqb (next_cell s kind k year sep).answer 0 ≡ false → values_from (suc n) s kind k year sep ≡ []
@@ -282,6 +300,21 @@ module _ (answer at kind count : ℕ) (values : List ℕ) where
     unfolding ended_by
     ended_whole e = passed_over _ _ (not (eqb answer 255)) (ap not ended) ∙ passed_over _ _ (not (whole_of kind count)) (ap not e)
 
+-- an outcome stands at the place that it was asked at
+pub ended_at : (answer at kind count : ℕ) (values : List ℕ) → (ended_by answer at kind count values).at ≡ at
+unfolding ended_by
+ended_at answer at kind count values = go (test (eqb answer 255)) (test (whole_of kind count))
+  where
+    go : Tested (eqb answer 255) → Tested (whole_of kind count) → (ended_by answer at kind count values).at ≡ at
+    go (fails e) w = ap (λ (p : Parsed). p.at) (ended_other answer at kind count values e)
+    go (holds e) (fails w) = ap (λ (p : Parsed). p.at) (ended_few answer at kind count values e w)
+    go (holds e) (holds w) = ap (λ (p : Parsed). p.at) (ended_whole answer at kind count values e w)
+
+-- what is told of an outcome in numbers, where the place and the definition are known by other names
+pub outcome_is : (p : Parsed) (answer at kind count : ℕ) (values : List ℕ) (r : Result Entry Wrong) → p ≡ ended_by answer at kind count values → parsed_in at r ≡ ended_by answer at kind count values → parsed_in p.at r ≡ p
+outcome_is p answer at kind count values r e told =
+    ap (λ (n : ℕ). parsed_in n r) (ap (λ (q : Parsed). q.at) e ∙ ended_at answer at kind count values) ∙ told ∙ sym e
+
 -- the outcome of a line of which k items are read, where the rest from a place on has n turns left
 unfoldable pub going_on : ℕ → List ℕ → ℕ → ℕ → ℕ → ℕ → ℕ → List ℕ → Parsed
 going_on n line at kind k year sep values =
@@ -346,6 +379,68 @@ module _ (line : List ℕ) (at kind k year sep : ℕ) (values : List ℕ) (f : F
       let e : f.used ≡ (next_cell (drop at line) kind k year sep).used = ap (λ (r : Found). r.used) is in
       omega (arith, cell_short (drop at line) kind k year sep, length-drop at line)
 
+-- what the code tells of a line of which k items are read, by what comes next: what is wrong, the line's end, or an item
+module _ (line : List ℕ) (at kind k year sep : ℕ) where
+  abbrev cell_there : Found
+  cell_there = placed at (next_cell (drop at line) kind k year sep)
+
+  wrong_there : (w : Wrong) → wrong_in w ≡ cell_there → eqb (next_cell (drop at line) kind k year sep).answer 0 ≡ false
+  wrong_there w told = sym (ap (λ (f : Found). eqb f.answer 0) told) ∙ wrong_answer w
+
+  end_there : (end : ℕ) → said_at 255 end ≡ cell_there → eqb (next_cell (drop at line) kind k year sep).answer 0 ≡ false
+  end_there end told = sym (ap (λ (f : Found). eqb f.answer 0) told)
+
+  item_there : (value used : ℕ) → read value used ≡ cell_there → eqb (next_cell (drop at line) kind k year sep).answer 0 ≡ true
+  item_there value used told = sym (ap (λ (f : Found). eqb f.answer 0) told)
+
+  module _ (values : List ℕ) (p : Parsed) (r : Result Entry Wrong) where
+    tells_wrong : (w : Wrong) → r ≡ Err w → wrong_in w ≡ cell_there → p ≡ ended_by cell_there.answer cell_there.used kind k values → parsed_in p.at r ≡ p
+    tells_wrong w is told e =
+        let other = ended_other (expected_number w.expected) w.at kind k values (wrong_no_end w) in
+        ap (parsed_in p.at) is ∙ sym (e ∙ sym (ap (λ (f : Found). ended_by f.answer f.used kind k values) told) ∙ other)
+
+    tells_end : (end : ℕ) → said_at 255 end ≡ cell_there → parsed_in end r ≡ ended_by 255 end kind k values → p ≡ ended_by cell_there.answer cell_there.used kind k values → parsed_in p.at r ≡ p
+    tells_end end told ends e = outcome_is p 255 end kind k values r (e ∙ sym (ap (λ (f : Found). ended_by f.answer f.used kind k values) told)) ends
+
+    -- with turns left
+    module _ (n : ℕ) (goes : p ≡ going_on (suc n) line at kind k year sep values) where
+      pub gather_wrong : (w : Wrong) → r ≡ Err w → wrong_in w ≡ cell_there → parsed_in p.at r ≡ p
+      gather_wrong w is told = tells_wrong w is told (goes ∙ going_ends line at kind k year sep values (next_cell (drop at line) kind k year sep) refl n (wrong_there w told))
+
+      pub gather_end : (end : ℕ) → said_at 255 end ≡ cell_there → parsed_in end r ≡ ended_by 255 end kind k values → parsed_in p.at r ≡ p
+      gather_end end told ends = tells_end end told ends (goes ∙ going_ends line at kind k year sep values (next_cell (drop at line) kind k year sep) refl n (end_there end told))
+
+    -- with none
+    module _ (goes : p ≡ going_on zero line at kind k year sep values) where
+      pub last_wrong : (w : Wrong) → r ≡ Err w → wrong_in w ≡ cell_there → parsed_in p.at r ≡ p
+      last_wrong w is told = tells_wrong w is told (goes ∙ going_last line at kind k year sep values (next_cell (drop at line) kind k year sep) refl)
+
+      pub last_end : (end : ℕ) → said_at 255 end ≡ cell_there → parsed_in end r ≡ ended_by 255 end kind k values → parsed_in p.at r ≡ p
+      last_end end told ends = tells_end end told ends (goes ∙ going_last line at kind k year sep values (next_cell (drop at line) kind k year sep) refl)
+
+  pub gather_item :
+      (values : List ℕ) (p : Parsed) (n value used : ℕ) → p ≡ going_on (suc n) line at kind k year sep values → read value used ≡ cell_there →
+      p ≡ going_on n line used kind (k + 1) year sep (set values k value)
+  gather_item values p n value used goes told =
+      goes ∙ going_on_lem line at kind k year sep values (next_cell (drop at line) kind k year sep) refl n (item_there value used told)
+      ∙ sym (ap (λ (f : Found). going_on n line f.used kind (k + 1) year sep (set values k f.value)) told)
+
+  -- the items that are read, by what comes next
+  pub read_wrong : (n : ℕ) (w : Wrong) → wrong_in w ≡ cell_there → k + length (values_from (suc n) (drop at line) kind k year sep) ≡ k
+  read_wrong n w told = read_ends line at kind k year sep (next_cell (drop at line) kind k year sep) refl n (wrong_there w told)
+
+  pub read_end : (n end : ℕ) → said_at 255 end ≡ cell_there → k + length (values_from (suc n) (drop at line) kind k year sep) ≡ k
+  read_end n end told = read_ends line at kind k year sep (next_cell (drop at line) kind k year sep) refl n (end_there end told)
+
+  pub read_item : (n value used : ℕ) → read value used ≡ cell_there → k + length (values_from (suc n) (drop at line) kind k year sep) ≡ k + 1 + length (values_from n (drop used line) kind (k + 1) year sep)
+  read_item n value used told =
+      read_more line at kind k year sep (next_cell (drop at line) kind k year sep) refl n (item_there value used told)
+      ∙ sym (ap (λ (f : Found). k + 1 + length (values_from n (drop f.used line) kind (k + 1) year sep)) told)
+
+  -- no item is read past the most that a line of any sort has
+  pub item_room : (value used : ℕ) → read value used ≡ cell_there → k < 261
+  item_room value used told = cell_room (drop at line) kind k year sep (item_there value used told)
+
 abbrev zeros : ℕ → List ℕ
 zeros n = replicate n 0
 
@@ -381,6 +476,15 @@ starts_from n line start kind year sep =
 pub going_starts : (line : List ℕ) (start kind year sep : ℕ) → gathered line start kind year sep ≡ going_on 261 line start kind 0 year sep (replicate 261 0)
 unfolding gathered
 going_starts line start kind year sep = sym (starts_from 261 line start kind year sep)
+
+-- the gaps in front are as long as they are many
+pub front_long : (line : List ℕ) → length (take (gaps_in line) line) ≡ gaps_in line
+front_long line = omega (arith, length-take (gaps_in line) line, gaps_short line)
+
+-- a word, and a blank one where there is none
+pub word_or : (o : Option Named) → word_in o ≡ record { kind = sort_number (unwrap_or o (record { kind = Blank; used = 0 })).kind; used = (unwrap_or o (record { kind = Blank; used = 0 })).used }
+word_or None = refl
+word_or (Some w) = refl
 
 -- a line, by its front
 module _ (line : List ℕ) (year : ℕ) where

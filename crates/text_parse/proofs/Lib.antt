@@ -1,2 +1,3 @@
 pub mod EntryLaws
+pub mod OutcomeLaws
 pub mod OneOutcome

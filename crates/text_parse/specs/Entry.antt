@@ -1,10 +1,9 @@
 -- A line of text read as an entry (docs/TEXT.md): its word, then its items, each parted from the next.
 use Rattle.std.specs.Prelude.{ℕ, zero, suc, ◌+◌, List, [], ◌∷◌, Bool, true, false, ◌&&◌, not, cond, eqb, ltb, leb, length, take, drop}
 use Rattle.text_items.specs.Shape.{item_of, most_of, whole_of, entry_of, no_entry}
-use Rattle.text_scan.specs.declared.Found.{Found}
+use Rattle.text_scan.specs.Found.{Found}
 use Rattle.text_scan.specs.Scan.{said_at, gaps_in, ends_here, parted_here, separator_of, other_at, gap_said, item_found}
-use Rattle.text_parse.specs.declared.Word.{Word}
-use Rattle.text_parse.specs.declared.Parsed.{Parsed}
+use Rattle.text_parse.specs.Records.{Word, Parsed}
 
 abbrev pub begins_with : List ℕ → List ℕ → Bool
 begins_with s [] = true

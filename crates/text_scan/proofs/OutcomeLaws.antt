@@ -1,5 +1,5 @@
 -- What was expected is told by its number, which is not 0, and an outcome by what it says. Assumes nothing.
-use Rattle.std.specs.Prelude.{ℕ, ◌≡◌, ◌≤◌, Bool, false, cond, eqb, Result, Ok, Err}
+use Rattle.std.specs.Prelude.{ℕ, ◌≡◌, ◌<◌, ◌≤◌, Bool, false, cond, eqb, Result, Ok, Err}
 use mathlib.Core.Path.{refl, ap, sym, ◌∙◌}
 use native.Mathlib.Omega.{arith}
 use borrow.Author.Tests.{ne_eqb}
@@ -52,6 +52,23 @@ expected_above_0 OtherSeparator = omega arith
 expected_above_0 Separator = omega arith
 expected_above_0 EmptyCell = omega arith
 
+pub expected_below_16 : (e : Expected) → expected_number e < 16
+expected_below_16 Word = omega arith
+expected_below_16 Number = omega arith
+expected_below_16 AtMost255 = omega arith
+expected_below_16 AtMost65535 = omega arith
+expected_below_16 AtMost4294967295 = omega arith
+expected_below_16 Time = omega arith
+expected_below_16 SheetBefore = omega arith
+expected_below_16 DayOfYear = omega arith
+expected_below_16 TwoDigits = omega arith
+expected_below_16 Gap = omega arith
+expected_below_16 NoMore = omega arith
+expected_below_16 More = omega arith
+expected_below_16 OtherSeparator = omega arith
+expected_below_16 Separator = omega arith
+expected_below_16 EmptyCell = omega arith
+
 -- what is wrong, by what is said of it
 wrong_with : Found → Wrong
 wrong_with r = record { expected = expected_with r.answer; at = r.used }
@@ -69,6 +86,13 @@ found_with r = cond (eqb r.answer 0) (Ok (record { value = r.value; used = r.use
 
 above_0 : (n : ℕ) → 1 ≤ n → eqb n 0 ≡ false
 above_0 n h = ne_eqb n 0 (λ e. omega arith)
+
+-- and what is wrong is not answered by 0, nor by the line's end
+pub wrong_answer : (w : Wrong) → eqb (wrong_in w).answer 0 ≡ false
+wrong_answer w = above_0 (expected_number w.expected) (expected_above_0 w.expected)
+
+pub wrong_no_end : (w : Wrong) → eqb (wrong_in w).answer 255 ≡ false
+wrong_no_end w = ne_eqb (expected_number w.expected) 255 (λ e. omega (arith, expected_below_16 w.expected, e))
 
 wrong_past : {X : Type 0} (w : Wrong) (x y : X) → cond (eqb (wrong_in w).answer 0) x y ≡ y
 wrong_past w x y = ap (λ (t : Bool). cond t x y) (above_0 (expected_number w.expected) (expected_above_0 w.expected))

@@ -1,5 +1,4 @@
--- Which text stands for a time, an item and a gap, by the tests that tell them apart; the items of a line from a place on, one at a time;
--- and how long a line is at most. Assumes nothing.
+-- The items of a line from a place on, one at a time, and how long a line is at most. Assumes nothing.
 use Prim.Native.Nat.{ℕ, zero, suc, ◌+◌, ◌*◌, ◌/◌, ◌%◌, ◌^◌, ◌<◌, ◌≤◌, min}
 use mathlib.Core.Path.{◌≡◌, refl, sym, ap, ◌∙◌}
 use mathlib.Core.Bool.{Bool, true, false, cond}
@@ -14,94 +13,30 @@ use Rattle.annex.specs.Times.{minutes_in}
 use Rattle.base.proofs.TestLaws.{Tested, holds, fails, test}
 use Rattle.text.specs.Text.{number_text}
 use Rattle.text.proofs.TextLaws.{tenth_below, number_ends, number_unrolls}
-use Rattle.pen.specs.Pen.{Spot, pushed_all, hex_text}
-use Rattle.pen.proofs.PenLaws.{pushed_all_append}
+use Rattle.pen.specs.declared.Pen.{Pen}
+use Rattle.pen.specs.Pen.{inked, hex_text}
+use Rattle.pen.proofs.PenLaws.{inked_append}
 use Rattle.text_items.specs.Entry.{Entry}
 use Rattle.text_items.specs.Shape.{item_of, bar_before}
 use Rattle.text_parse.specs.Entry.{word_text}
 use Rattle.text_write.specs.Line.{date_text, time_text, item_text, gap_text, items_text, entry_items, line_of}
 
--- nothing written leaves the spot as it was
-pub pushed_none : (s : Spot) → pushed_all s [] ≡ s
-pushed_none s = refl
-
--- a time: minutes where no year is known or the time is past the year's end, and a date within it
-pub time_unknown : (year t : ℕ) → year ≡ 0 → time_text year t ≡ number_text t
-unfolding time_text
-time_unknown year t e = rw (eq-eqb year 0 e) refl
-
-pub time_past : (year t : ℕ) → (year ≡ 0 → ⊥) → minutes_in year ≤ t → time_text year t ≡ number_text t
-unfolding time_text
-time_past year t n h = rw (ne_eqb year 0 n, le-leb (minutes_in year) t h) refl
-
-pub time_within : (year t : ℕ) → (year ≡ 0 → ⊥) → t < minutes_in year → time_text year t ≡ date_text year t
-unfolding time_text
-time_within year t n h = rw (ne_eqb year 0 n, lt-leb (minutes_in year) t h) refl
-
--- an item: a time, two hexadecimal digits, or a number
-pub item_time : (item year v : ℕ) → item ≡ 4 → item_text item year v ≡ time_text year v
-unfolding item_text
-item_time item year v e = rw (eq-eqb item 4 e) refl
-
-pub item_digits : (item year v : ℕ) → (item ≡ 4 → ⊥) → item ≡ 5 → item_text item year v ≡ hex_text v
-unfolding item_text
-item_digits item year v n e = rw (ne_eqb item 4 n, eq-eqb item 5 e) refl
-
-pub item_number : (item year v : ℕ) → (item ≡ 4 → ⊥) → (item ≡ 5 → ⊥) → item_text item year v ≡ number_text v
-unfolding item_text
-item_number item year v n m = rw (ne_eqb item 4 n, ne_eqb item 5 m) refl
-
--- a gap: a bar between two spaces, or a space
-pub gap_bar : (kind k : ℕ) → bar_before kind k ≡ true → gap_text kind k ≡ (32 ∷ 124 ∷ 32 ∷ [])
-unfolding gap_text
-gap_bar kind k e = rw e refl
-
-pub gap_space : (kind k : ℕ) → bar_before kind k ≡ false → gap_text kind k ≡ (32 ∷ [])
-unfolding gap_text
-gap_space kind k e = rw e refl
-
--- a sort of line that has no word
-pub no_word : (kind : ℕ) → (kind ≡ 1 → ⊥) → (kind ≡ 2 → ⊥) → (kind ≡ 3 → ⊥) → (kind ≡ 4 → ⊥) → word_text kind ≡ []
-no_word kind a b c d = rw (ne_eqb kind 1 a, ne_eqb kind 2 b, ne_eqb kind 3 c, ne_eqb kind 4 d) refl
-
--- the k-th item, and those behind it
-pub items_next :
-    (kind year k : ℕ) (vs : List ℕ) →
-    k < length vs →
-    items_text kind year k (drop k vs) ≡ (gap_text kind k ++ (item_text (item_of kind k) year (get_or vs k 0) ++ items_text kind year (k + 1) (drop (k + 1) vs)))
-items_next kind year k vs h = rw (drop-cons vs k 0 h, add-one) refl
-
--- the gap and the item written one after the other: the items behind them are left
+-- the k-th item with its gap, and those behind it, one written after the other
 pub item_on :
-    (s t u : Spot) (item kind year k count : ℕ) (values : List ℕ) →
-    k < count →
-    k < length values →
-    item ≡ item_of kind k →
-    t ≡ pushed_all s (gap_text kind k) →
-    u ≡ pushed_all t (item_text item year (get_or values k 0)) →
-    pushed_all s (items_text kind year k (drop k (take count values))) ≡ pushed_all u (items_text kind year (k + 1) (drop (k + 1) (take count values)))
-item_on s t u item kind year k count values h l sort gap put =
-    let vs : List ℕ = take count values in
-    let long : length vs ≡ min count (length values) = length-take count values in
+    (p : Pen) (kind year k : ℕ) (vs : List ℕ) →
+    k < length vs →
+    inked p (items_text kind year k (drop k vs)) ≡
+    inked (inked (inked p (gap_text kind k)) (item_text (item_of kind k) year (get_or vs k 0))) (items_text kind year (k + 1) (drop (k + 1) vs))
+item_on p kind year k vs h =
     let g : List ℕ = gap_text kind k in
-    let w : ℕ → List ℕ = item_text (item_of kind k) year in
+    let w : List ℕ = item_text (item_of kind k) year (get_or vs k 0) in
     let rest : List ℕ = items_text kind year (k + 1) (drop (k + 1) vs) in
-    let done : u ≡ pushed_all (pushed_all s g) (w (get_or values k 0)) = put ∙ (λ i. pushed_all (gap i) (item_text (sort i) year (get_or values k 0))) in
-    ap (pushed_all s) (items_next kind year k vs (omega arith)) ∙
-    ap (λ (v : ℕ). pushed_all s (g ++ (w v ++ rest))) (get_or-take count values k 0 h) ∙
-    pushed_all_append s g (w (get_or values k 0) ++ rest) ∙
-    pushed_all_append (pushed_all s g) (w (get_or values k 0)) rest ∙
-    ap (λ (x : Spot). pushed_all x rest) (sym done)
+    let next : items_text kind year k (drop k vs) ≡ g ++ (w ++ rest) = rw (drop-cons vs k 0 h, add-one) refl in
+    ap (inked p) next ∙ sym (inked_append p g (w ++ rest)) ∙ sym (inked_append (inked p g) w rest)
 
 -- past the last item nothing is left
-pub items_end : (s : Spot) (kind year k : ℕ) (vs : List ℕ) → length vs ≤ k → pushed_all s (items_text kind year k (drop k vs)) ≡ s
-items_end s kind year k vs h = ap (λ (l : List ℕ). pushed_all s (items_text kind year k l)) (drop_of_length-le vs h) ∙ pushed_none s
-
-pub count_end : (s : Spot) (kind year k count : ℕ) (values : List ℕ) → count ≤ k → pushed_all s (items_text kind year k (drop k (take count values))) ≡ s
-count_end s kind year k count values h = let long : length (take count values) ≡ min count (length values) = length-take count values in items_end s kind year k (take count values) (omega arith)
-
-pub values_end : (s : Spot) (kind year k count : ℕ) (values : List ℕ) → length values ≤ k → pushed_all s (items_text kind year k (drop k (take count values))) ≡ s
-values_end s kind year k count values h = let long : length (take count values) ≡ min count (length values) = length-take count values in items_end s kind year k (take count values) (omega arith)
+pub items_end : (p : Pen) (kind year k : ℕ) (vs : List ℕ) → length vs ≤ k → inked p (items_text kind year k (drop k vs)) ≡ p
+items_end p kind year k vs h = ap (λ (l : List ℕ). inked p (items_text kind year k l)) (drop_of_length-le vs h)
 
 -- How long a line is at most.
 

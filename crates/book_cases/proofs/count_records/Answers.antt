@@ -1,34 +1,37 @@
-use Rattle.std.proofs.Common.{◌≡◌, ℕ, List, length, ap, sym, ◌∙◌, subst, arith, ◌<◌}
-use Rattle.wire.specs.Book.{which_at, after_at}
-use Rattle.wire.specs.Cut.{records_from}
-use Rattle.wire.proofs.CutLaws.{passed}
-use Rattle.book_cases.proofs.CountLaws.{Come, come_on, come_end}
+use Rattle.std.proofs.Common.{◌≡◌, ◌+◌, Bor, List, ℕ, ap, sym, ◌∙◌, subst, arith}
+use Rattle.std.specs.Prelude.{Option, Ok}
+use Rattle.wire.specs.Book.{after_at}
+use Rattle.reader.specs.Reader.{which_in}
+use Rattle.book_cases.proofs.CountLaws.{Come, come_on, counted_fewer, record_there, ended}
 use Rattle.book_cases.proofs.count_records.Goals as goal
 
--- where a record is answered, fewer than all are counted
-counted_fewer : (book : List ℕ) (n at : ℕ) → Come book n at → which_at book at ≡ 0 → n < length (records_from book 0)
-counted_fewer book n at c h = let l = ap length (passed book at h).0 in omega (arith, l, c.0)
-
-pub loop-a-smaller : goal.loop-a-smaller
-loop-a-smaller c =
-    let i = c.loop-a.invariant in
-    let zero : which_at c.args.book.now i.0 ≡ 0 = sym i.2 ∙ c.loop-a-test.true in
-    let l = counted_fewer c.args.book.now c.loop-a.n i.0 i.1 zero in
+pub records-smaller : goal.records-smaller
+records-smaller c =
+    let i = c.records.invariant in
+    let zero = record_there c.args.book.now _ _ _ _ _ c.in-Ok-Some.is c.in-Ok-Some.field-0-is c.next.ensures.0 i.1 in
+    let l = counted_fewer c.args.book.now c.records.count c.records.reader.at i.0 zero in
     omega (arith, l)
 
-pub loop-a-preserved : goal.loop-a-preserved
-loop-a-preserved c =
-    let i = c.loop-a.invariant in
+pub records-preserved : goal.records-preserved
+records-preserved c =
+    let i = c.records.invariant in
+    let e = c.next.ensures in
     let book = c.args.book.now in
-    let zero : which_at book i.0 ≡ 0 = sym i.2 ∙ c.loop-a-test.true in
-    let e = c.next-a-in-loop-a.ensures in
-    let here : (b : List ℕ) (at : ℕ) → Type 0 = λ b at. (c.next-a-in-loop-a.result.which ≡ which_at b at) × (c.next-a-in-loop-a.result.reader.at ≡ after_at b at) in
-    let now = subst (λ at. here book at) i.3 (subst (λ b. here b c.loop-a.a.reader.at) i.4 (e.0, e.3)) in
-    (after_at book i.0, come_on book c.loop-a.n i.0 i.1 zero, now.0, now.1, ap (λ r. r.now) e.2 ∙ i.4)
+    let at = c.records.reader.at in
+    let zero = record_there book _ _ _ _ _ c.in-Ok-Some.is c.in-Ok-Some.field-0-is e.0 i.1 in
+    let stop = subst (λ b. c.next.new.self.at ≡ after_at b at) i.1 e.3 in
+    (subst (Come book (c.records.count + 1)) (sym stop) (come_on book c.records.count at i.0 zero), ap (λ r. r.now) e.2 ∙ i.1)
 
-pub returns : goal.returns
-returns c =
-    let i = c.loop-a.invariant in
-    let book = c.args.book.now in
-    let end = come_end book c.loop-a.n i.0 i.1 (λ h. c.loop-a-test.false (i.2 ∙ h)) in
-    (end.0, i.3 ∙ end.1, i.2 ∙ end.2)
+pub returns-in-Ok-None : goal.returns-in-Ok-None
+returns-in-Ok-None c =
+    let i = c.records.invariant in
+    let e = c.next.ensures in
+    let told : which_in c.next.result ≡ 1 = ap which_in c.in-Ok-None.is ∙ ap (λ (o : Option (Bor (List ℕ))). which_in (Ok o)) c.in-Ok-None.field-0-is in
+    ended c.args.book.now _ _ _ _ 1 i.0 i.1 e.3 (sym told ∙ e.0) (λ z. let no : ⊥ = omega (arith, z) in no)
+
+pub returns-in-Err : goal.returns-in-Err
+returns-in-Err c =
+    let i = c.records.invariant in
+    let e = c.next.ensures in
+    let told : which_in c.next.result ≡ 2 = ap which_in c.in-Err.is in
+    ended c.args.book.now _ _ _ _ 2 i.0 i.1 e.3 (sym told ∙ e.0) (λ z. let no : ⊥ = omega (arith, z) in no)

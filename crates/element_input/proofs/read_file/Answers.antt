@@ -1,19 +1,34 @@
-use Rattle.std.proofs.Common.{false, [], ◌∙◌}
+use Rattle.std.proofs.Common.{false, []}
 use Rattle.element_table.specs.Table.{seen_as}
 use Rattle.element_file.specs.Yearly.{starting}
-use Rattle.element_input.proofs.WholeLaws.{unread, begun_arrived, arrived_whole}
+use Rattle.element_input.proofs.WholeLaws.{unread, begun_arrived, is_read, read_is}
 use Rattle.element_input.proofs.read_file.Goals as goal
 
 -- nothing is read into an unsound table
-pub returns-then-begun-ne0 : goal.returns-then-begun-ne0
-returns-then-begun-ne0 g c = ([], unread c.args.table c.begin-begun.result c.begin-begun.ensures c.if-begun-ne0.true)
+pub returns-in-Err : goal.returns-in-Err
+returns-in-Err g c = ([], unread c.args.table c.in-Err.refusal c.in-Err.ensures)
 
 -- what came is held by the inflow that is finished
-pub returns : goal.returns
-returns g c =
+pub unwrap-reading-requires : goal.unwrap-reading-requires
+unwrap-reading-requires g c =
     let t = c.args.table in
-    let begun = c.begin-begun in
-    let all = c.take_all-last in
-    let came = all.ensures (starting (seen_as false t)) (begun_arrived t begun.result begun.ensures c.if-begun-ne0.false _) in
-    let w = arrived_whole t begun.result begun.ensures c.if-begun-ne0.false all.result.flow all.new.buffer came in
-    (w.0, c.finish.ensures ∙ w.1)
+    let b = c.in-Ok in
+    let all = c.take_all-all in
+    let came = all.ensures (starting (seen_as false t)) (begun_arrived t b.begun b.ensures _) in
+    is_read t b.begun b.ensures all.new.flow all.new.buffer came c.finish.result c.finish.ensures
+
+pub returns-in-Ok-all : goal.returns-in-Ok-all
+returns-in-Ok-all g c =
+    let t = c.args.table in
+    let b = c.in-Ok in
+    let all = c.take_all-all in
+    let came = all.ensures (starting (seen_as false t)) (begun_arrived t b.begun b.ensures _) in
+    read_is t b.begun b.ensures all.new.flow all.new.buffer came c.finish.result c.finish.ensures _ c.unwrap-reading.ensures
+
+pub returns-in-Err-all : goal.returns-in-Err-all
+returns-in-Err-all g c =
+    let t = c.args.table in
+    let b = c.in-Ok in
+    let all = c.take_all-all in
+    let came = all.ensures (starting (seen_as false t)) (begun_arrived t b.begun b.ensures _) in
+    read_is t b.begun b.ensures all.new.flow all.new.buffer came c.finish.result c.finish.ensures _ c.unwrap-reading.ensures

@@ -1,28 +1,21 @@
--- At each turn the bytes before are those of the word in whichever letters, so what is left decides; a line that is shorter than the word does not begin with
--- it. Assumes nothing.
+-- A line that is as long as the word begins with it where each pair of their bytes is the same in whichever letters; a shorter one does not. Assumes nothing.
 use mathlib.Core.Path.{sym, ◌∙◌}
-use borrow.Author.Rules.{rules}
-use Rattle.likeness.proofs.LikenessLaws.{alike_short, alike_parts, alike_next, alike_whole}
+use lib.ListN.{length}
+use borrow.Author.Tests.{lt-leb}
+use Rattle.std.proofs.Common.{rules, tests}
+use Rattle.std.proofs.lemmas.Iterator.{YieldsList-from_slice, YieldsList-from_zip}
+use Rattle.std.proofs.lemmas.Iterator.Search.{all_from_yields_List}
+use Rattle.likeness.proofs.LikenessLaws.{same_letters, alike_short, alike_all}
 use Rattle.likeness.proofs.begins_alike.Goals as goal
 
-pub returns-then-s-word : goal.returns-then-s-word
-returns-then-s-word c = sym (alike_short c.args.s.now c.args.word.now c.if-s-word.true)
-
-pub returns-then-lowered-word : goal.returns-then-lowered-word
-returns-then-lowered-word c =
+pub returns-then-word-s : goal.returns-then-word-s
+returns-then-word-s c =
     let a = c.args in
-    let l = c.loop-i in
-    sym (l.invariant.1 ∙ alike_parts a.s.now a.word.now l.i (search rules) (search rules) (λ e. c.if-lowered-word.true (c.lowered.ensures ∙ e)))
+    all_from_yields_List same_letters c.all.new.self _ c.all.result c.all.ensures.ran
+    (YieldsList-from_zip (YieldsList-from_slice a.s.now cc) (YieldsList-from_slice a.word.now cc)) (λ x b q k. search (rules, tests)) ∙
+    alike_all a.s.now a.word.now c.if-word-s.true
 
-pub loop-i-preserved : goal.loop-i-preserved
-loop-i-preserved c =
+pub returns-else-word-s : goal.returns-else-word-s
+returns-else-word-s c =
     let a = c.args in
-    let l = c.loop-i in
-    let same = sym c.lowered.ensures ∙ c.if-lowered-word.false in
-    (search rules, l.invariant.1 ∙ alike_next a.s.now a.word.now l.i (search rules) (search rules) same)
-
-pub returns : goal.returns
-returns c =
-    let a = c.args in
-    let l = c.loop-i in
-    sym (l.invariant.1 ∙ alike_whole a.s.now a.word.now l.i (search rules))
+    lt-leb (length a.word.now) (length a.s.now) c.if-word-s.false ∙ sym (alike_short a.s.now a.word.now c.if-word-s.false)

@@ -1,13 +1,8 @@
-use Prim.Native.Nat.{◌-◌}
 use mathlib.Core.Path.{◌≡◌}
-use lib.ListN.{length, take, drop}
-use Rattle.pen.specs.Pen.{spot, pushed_all}
+use lib.ListN.{drop}
+use Rattle.pen.specs.Pen.{inked}
 use Rattle.pack.specs.Pack.{one_each}
 use Rattle.pack.proofs.put_bytes.Given as goal
 
-abbrev pub invariant-loop-k : goal.invariant-loop-k
-invariant-loop-k l =
-    (pushed_all (spot l.initial.out l.at) (one_each (take l.count l.values)) ≡ pushed_all (spot l.out l.to) (one_each (drop l.k (take l.count l.values)))) × (length l.values ≡ 261) × (length l.out ≡ length l.initial.out)
-
-abbrev pub decreases-loop-k : goal.decreases-loop-k
-decreases-loop-k l = 261 - l.k
+abbrev pub invariant-loop-value : goal.invariant-loop-value
+invariant-loop-value l = inked l.initial.pen (one_each l.values) ≡ inked l.pen (one_each (drop l.value-index l.values))

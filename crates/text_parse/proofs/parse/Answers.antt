@@ -5,82 +5,80 @@ use mathlib.Core.Bool.{true, false}
 use lib.Dec.{eqb, ltb}
 use lib.ListN.{take, drop}
 use native.Mathlib.Omega.{arith}
-use borrow.Author.Tests.{ne_eqb, eq-eqb, lt-ltb, le-ltb}
+use borrow.Author.Tests.{ne_eqb}
+use Rattle.std.specs.Prelude.{Some, None}
+use Rattle.text_items.specs.Sorts.{sort_number}
+use Rattle.text_scan.specs.declared.Wrong.{Wrong}
+use Rattle.text_scan.specs.Outcomes.{expected_number, place_within}
 use Rattle.text_scan.specs.Scan.{gaps_in, ends_here, other_at}
-use Rattle.text_scan.proofs.ScanLaws.{part_is_rest, part_is_front, gaps_short}
-use Rattle.text_parse.specs.declared.Word.{Word}
+use Rattle.text_scan.proofs.ScanLaws.{part_is_rest, part_is_front, gaps_short, place_there, place_none}
+use Rattle.text_parse.specs.Records.{Word, Parsed}
+use Rattle.text_parse.specs.Outcomes.{parsed_in}
 use Rattle.text_parse.specs.Entry.{word_of, refused_at, gathered}
-use Rattle.text_parse.proofs.EntryLaws.{word_short, other_before, parse_blank, parse_other, parse_wordless, parse_gathers}
+use Rattle.text_parse.proofs.EntryLaws.{word_short, other_before, front_long, parse_blank, parse_other, parse_wordless, parse_gathers}
 use Rattle.text_parse.proofs.parse.Goals as goal
 
 pub returns-then-ends_here : goal.returns-then-ends_here
 returns-then-ends_here c =
-    let rest : c.part-rest.result.now ≡ drop (gaps_in c.args.line.now) c.args.line.now = let s = c.args.line.now in
-    c.part-rest.ensures ∙ part_is_rest s c.gaps_in-skipped.result ∙ ap (λ (n : ℕ). drop n s) c.gaps_in-skipped.ensures in
-    let ends : c.ends_here.result ≡ ends_here (drop (gaps_in c.args.line.now) c.args.line.now) = c.ends_here.ensures ∙ ap ends_here rest in
     let a = c.args in
-    c.no_entry.ensures ∙ ap (refused_at 0) c.gaps_in-skipped.ensures ∙ sym (parse_blank a.line.now a.year (sym ends ∙ c.if-ends_here.true))
+    let s = a.line.now in
+    let rest : c.part-rest.result.now ≡ drop (gaps_in c.args.line.now) c.args.line.now = c.part-rest.ensures ∙ part_is_rest s c.gaps_in-skipped.result ∙ ap (λ (n : ℕ). drop n s) c.gaps_in-skipped.ensures in
+    let ended : ends_here (drop (gaps_in c.args.line.now) c.args.line.now) ≡ true = sym (ap ends_here rest) ∙ sym c.ends_here.ensures ∙ c.if-ends_here.true in
+    let blank = parse_blank s a.year ended in
+    (λ i. refused_at 0 (blank i).at) ∙ sym blank
 
-pub returns-then-other-skipped : goal.returns-then-other-skipped
-returns-then-other-skipped c =
-    let rest : c.part-rest.result.now ≡ drop (gaps_in c.args.line.now) c.args.line.now = let s = c.args.line.now in
-    c.part-rest.ensures ∙ part_is_rest s c.gaps_in-skipped.result ∙ ap (λ (n : ℕ). drop n s) c.gaps_in-skipped.ensures in
-    let ends : c.ends_here.result ≡ ends_here (drop (gaps_in c.args.line.now) c.args.line.now) = c.ends_here.ensures ∙ ap ends_here rest in
-    let goes : ends_here (drop (gaps_in c.args.line.now) c.args.line.now) ≡ false = sym ends ∙ c.if-ends_here.false in
-    let other : c.other_at-other.result ≡ other_before c.args.line.now c.args.year = let s = c.args.line.now in
-    let g = c.gaps_in-skipped in
-    let front = c.part.ensures ∙ part_is_front s g.result ∙ ap (λ (n : ℕ). take n s) g.ensures in
-    c.other_at-other.ensures ∙ (λ i. other_at (front i) (c.separator_of-sep.ensures i)) in
+pub returns-in-Some : goal.returns-in-Some
+returns-in-Some c =
     let a = c.args in
-    let o = other in
-    let is : ltb (other_before a.line.now a.year) (gaps_in a.line.now) ≡ true =
-    sym (λ i. ltb (o i) (c.gaps_in-skipped.ensures i)) ∙ lt-ltb c.other_at-other.result c.gaps_in-skipped.result c.if-other-skipped.true in
-    c.no_entry-then-other-skipped.ensures ∙ ap (refused_at 13) o ∙ sym (parse_other a.line.now a.year goes is)
+    let s = a.line.now in
+    let gaps = c.gaps_in-skipped in
+    let rest : c.part-rest.result.now ≡ drop (gaps_in c.args.line.now) c.args.line.now = c.part-rest.ensures ∙ part_is_rest s gaps.result ∙ ap (λ (n : ℕ). drop n s) gaps.ensures in
+    let goes : ends_here (drop (gaps_in c.args.line.now) c.args.line.now) ≡ false = sym (ap ends_here rest) ∙ sym c.ends_here.ensures ∙ c.if-ends_here.false in
+    let front : c.part.result.now ≡ take (gaps_in c.args.line.now) c.args.line.now = c.part.ensures ∙ part_is_front s gaps.result ∙ ap (λ (n : ℕ). take n s) gaps.ensures in
+    let told : place_within (other_before c.args.line.now c.args.year) (take (gaps_in c.args.line.now) c.args.line.now) ≡ Some c.in-Some.other =
+    sym (c.other_at.ensures ∙ (λ i. place_within (other_at (front i) (c.separator_of-sep.ensures i)) (front i))) ∙ c.in-Some.is in
+    let there = place_there (other_before s a.year) (take (gaps_in s) s) c.in-Some.other told in
+    let is : ltb (other_before c.args.line.now c.args.year) (gaps_in c.args.line.now) ≡ true = sym (ap (ltb (other_before s a.year)) (front_long s)) ∙ there.0 in
+    ap (λ (w : Wrong). refused_at (expected_number w.expected) w.at) c.at.ensures ∙ ap (refused_at 13) there.1 ∙ sym (parse_other s a.year goes is)
 
-pub returns-then-word-eq-BLANK : goal.returns-then-word-eq-BLANK
-returns-then-word-eq-BLANK c =
-    let rest : c.part-rest.result.now ≡ drop (gaps_in c.args.line.now) c.args.line.now = let s = c.args.line.now in
-    c.part-rest.ensures ∙ part_is_rest s c.gaps_in-skipped.result ∙ ap (λ (n : ℕ). drop n s) c.gaps_in-skipped.ensures in
-    let ends : c.ends_here.result ≡ ends_here (drop (gaps_in c.args.line.now) c.args.line.now) = c.ends_here.ensures ∙ ap ends_here rest in
-    let goes : ends_here (drop (gaps_in c.args.line.now) c.args.line.now) ≡ false = sym ends ∙ c.if-ends_here.false in
-    let other : c.other_at-other.result ≡ other_before c.args.line.now c.args.year = let s = c.args.line.now in
-    let g = c.gaps_in-skipped in
-    let front = c.part.ensures ∙ part_is_front s g.result ∙ ap (λ (n : ℕ). take n s) g.ensures in
-    c.other_at-other.ensures ∙ (λ i. other_at (front i) (c.separator_of-sep.ensures i)) in
-    let same : ltb (other_before c.args.line.now c.args.year) (gaps_in c.args.line.now) ≡ false = sym (λ i. ltb (other i) (c.gaps_in-skipped.ensures i)) ∙ le-ltb c.other_at-other.result c.gaps_in-skipped.result c.if-other-skipped.false in
-    let word : c.word_of-word.result ≡ word_of (drop (gaps_in c.args.line.now) c.args.line.now) = c.word_of-word.ensures ∙ ap word_of rest in
+pub returns-in_default-word_of : goal.returns-in_default-word_of
+returns-in_default-word_of c =
     let a = c.args in
-    let none : eqb (word_of (drop (gaps_in a.line.now) a.line.now)).kind 0 ≡ true =
-    sym (ap (λ (w : Word). eqb w.kind 0) word) ∙ eq-eqb c.word_of-word.result.kind 0 c.if-word-eq-BLANK.true in
-    c.no_entry-then-word-eq-BLANK.ensures ∙ ap (refused_at 1) c.gaps_in-skipped.ensures ∙ sym (parse_wordless a.line.now a.year goes same none)
+    let s = a.line.now in
+    let gaps = c.gaps_in-skipped in
+    let rest : c.part-rest.result.now ≡ drop (gaps_in c.args.line.now) c.args.line.now = c.part-rest.ensures ∙ part_is_rest s gaps.result ∙ ap (λ (n : ℕ). drop n s) gaps.ensures in
+    let goes : ends_here (drop (gaps_in c.args.line.now) c.args.line.now) ≡ false = sym (ap ends_here rest) ∙ sym c.ends_here.ensures ∙ c.if-ends_here.false in
+    let front : c.part.result.now ≡ take (gaps_in c.args.line.now) c.args.line.now = c.part.ensures ∙ part_is_front s gaps.result ∙ ap (λ (n : ℕ). take n s) gaps.ensures in
+    let told : place_within (other_before c.args.line.now c.args.year) (take (gaps_in c.args.line.now) c.args.line.now) ≡ None =
+    sym (c.other_at.ensures ∙ (λ i. place_within (other_at (front i) (c.separator_of-sep.ensures i)) (front i))) ∙ c.in_default.is in
+    let same : ltb (other_before c.args.line.now c.args.year) (gaps_in c.args.line.now) ≡ false = sym (ap (ltb (other_before s a.year)) (front_long s)) ∙ place_none (other_before s a.year) (take (gaps_in s) s) told in
+    let none : eqb (word_of (drop (gaps_in c.args.line.now) c.args.line.now)).kind 0 ≡ true = sym (ap (λ (w : Word). eqb w.kind 0) (c.in_default-word_of.ensures.word ∙ ap word_of rest)) in
+    ap (λ (w : Wrong). refused_at (expected_number w.expected) w.at) c.at-in_default-word_of.ensures ∙ ap (refused_at 1) gaps.ensures ∙ sym (parse_wordless s a.year goes same none)
 
 pub overflow_add-skipped : goal.overflow_add-skipped
 overflow_add-skipped c =
-    let rest : c.part-rest.result.now ≡ drop (gaps_in c.args.line.now) c.args.line.now = let s = c.args.line.now in
-    c.part-rest.ensures ∙ part_is_rest s c.gaps_in-skipped.result ∙ ap (λ (n : ℕ). drop n s) c.gaps_in-skipped.ensures in
-    let word : c.word_of-word.result ≡ word_of (drop (gaps_in c.args.line.now) c.args.line.now) = c.word_of-word.ensures ∙ ap word_of rest in
     let a = c.args in
-    let w : c.word_of-word.result.used ≡ (word_of (drop (gaps_in a.line.now) a.line.now)).used = ap (λ (r : Word). r.used) word in
-    let g : c.gaps_in-skipped.result ≡ gaps_in a.line.now = c.gaps_in-skipped.ensures in
-    omega (arith, gaps_short a.line.now, word_short (drop (gaps_in a.line.now) a.line.now))
+    let s = a.line.now in
+    let gaps = c.gaps_in-skipped in
+    let rest : c.part-rest.result.now ≡ drop (gaps_in c.args.line.now) c.args.line.now = c.part-rest.ensures ∙ part_is_rest s gaps.result ∙ ap (λ (n : ℕ). drop n s) gaps.ensures in
+    let w = ap (λ (r : Word). r.used) (c.in-Some-word_of.ensures.word ∙ ap word_of rest) in
+    let g = gaps.ensures in
+    omega (arith, gaps_short s, word_short (drop (gaps_in s) s), w, g)
 
 pub returns : goal.returns
 returns c =
-    let rest : c.part-rest.result.now ≡ drop (gaps_in c.args.line.now) c.args.line.now = let s = c.args.line.now in
-    c.part-rest.ensures ∙ part_is_rest s c.gaps_in-skipped.result ∙ ap (λ (n : ℕ). drop n s) c.gaps_in-skipped.ensures in
-    let ends : c.ends_here.result ≡ ends_here (drop (gaps_in c.args.line.now) c.args.line.now) = c.ends_here.ensures ∙ ap ends_here rest in
-    let goes : ends_here (drop (gaps_in c.args.line.now) c.args.line.now) ≡ false = sym ends ∙ c.if-ends_here.false in
-    let other : c.other_at-other.result ≡ other_before c.args.line.now c.args.year = let s = c.args.line.now in
-    let g = c.gaps_in-skipped in
-    let front = c.part.ensures ∙ part_is_front s g.result ∙ ap (λ (n : ℕ). take n s) g.ensures in
-    c.other_at-other.ensures ∙ (λ i. other_at (front i) (c.separator_of-sep.ensures i)) in
-    let same : ltb (other_before c.args.line.now c.args.year) (gaps_in c.args.line.now) ≡ false = sym (λ i. ltb (other i) (c.gaps_in-skipped.ensures i)) ∙ le-ltb c.other_at-other.result c.gaps_in-skipped.result c.if-other-skipped.false in
-    let word : c.word_of-word.result ≡ word_of (drop (gaps_in c.args.line.now) c.args.line.now) = c.word_of-word.ensures ∙ ap word_of rest in
     let a = c.args in
-    let w = word in
-    let g = c.gaps_in-skipped.ensures in
+    let s = a.line.now in
+    let gaps = c.gaps_in-skipped in
+    let rest : c.part-rest.result.now ≡ drop (gaps_in c.args.line.now) c.args.line.now = c.part-rest.ensures ∙ part_is_rest s gaps.result ∙ ap (λ (n : ℕ). drop n s) gaps.ensures in
+    let goes : ends_here (drop (gaps_in c.args.line.now) c.args.line.now) ≡ false = sym (ap ends_here rest) ∙ sym c.ends_here.ensures ∙ c.if-ends_here.false in
+    let front : c.part.result.now ≡ take (gaps_in c.args.line.now) c.args.line.now = c.part.ensures ∙ part_is_front s gaps.result ∙ ap (λ (n : ℕ). take n s) gaps.ensures in
+    let told : place_within (other_before c.args.line.now c.args.year) (take (gaps_in c.args.line.now) c.args.line.now) ≡ None =
+    sym (c.other_at.ensures ∙ (λ i. place_within (other_at (front i) (c.separator_of-sep.ensures i)) (front i))) ∙ c.in_default.is in
+    let same : ltb (other_before c.args.line.now c.args.year) (gaps_in c.args.line.now) ≡ false = sym (ap (ltb (other_before s a.year)) (front_long s)) ∙ place_none (other_before s a.year) (take (gaps_in s) s) told in
+    let word = c.in-Some-word_of.ensures.word ∙ ap word_of rest in
+    let there : eqb (word_of (drop (gaps_in c.args.line.now) c.args.line.now)).kind 0 ≡ false = sym (ap (λ (w : Word). eqb w.kind 0) word) ∙ ne_eqb (sort_number c.in-Some-word_of.word.kind) 0 c.in-Some-word_of.ensures.named in
+    let g = gaps.ensures in
     let p = c.separator_of-sep.ensures in
-    let there : eqb (word_of (drop (gaps_in a.line.now) a.line.now)).kind 0 ≡ false =
-    sym (ap (λ (r : Word). eqb r.kind 0) w) ∙ ne_eqb c.word_of-word.result.kind 0 c.if-word-eq-BLANK.false in
-    c.gather.ensures ∙ (λ i. gathered a.line.now (g i + (w i).used) (w i).kind a.year (p i)) ∙
-    sym (parse_gathers a.line.now a.year goes same there)
+    let is = parse_gathers s a.year goes same there ∙ sym (λ i. gathered s (g i + (word i).used) (word i).kind a.year (p i)) in
+    ap (λ (q : Parsed). parsed_in q.at c.gather.result) is ∙ c.gather.ensures ∙ sym is

@@ -1,0 +1,6 @@
+use Rattle.std.proofs.Common.{◌<◌}
+use Rattle.cases.proofs.numbers_by_turns.Given as goal
+
+abbrev pub invariant-loop-digits : goal.invariant-loop-digits
+invariant-loop-digits l =
+    (goal.iterator-loop-digits).can_next l.digits-iterator × (goal.iterator-loop-digits).is_finite l.digits-iterator × l.count < 16
