@@ -4,7 +4,7 @@
 ghost use Rattle.std.specs.Prelude.{◌≡◌, []};
 ghost use Rattle.text.specs.Text.{text_of, pushed, pushed_all, number_text, two_text};
 
-// The text, and how long it is; the bytes past it are 0.
+// The text, and how long it is; the bytes past it are 0, as `text_of` has them. An array beside a length, since library crates have no heap.
 #[derive(Clone, Copy)]
 pub struct Text {
     pub bytes: [u8; 1024],
@@ -46,7 +46,7 @@ impl Text {
         text
     }
 
-    // The text with a number in decimal digits, the most significant first.
+    // The text with a number in decimal digits, the most significant first. Not by a pen: `zero_as_space` and `number_turned` are wrong programs of this body.
     pub fn with_number(self, n: u64) -> Text
         ensures { result ≡ pushed_all self (number_text n) }
     {

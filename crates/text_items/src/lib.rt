@@ -55,7 +55,8 @@ impl From<u8> for Item {
     }
 }
 
-// What a line says: its sort, and the numbers of its items, as many as a stepped event of 64 steps has; those past them are 0.
+// What a line says: its sort, and the numbers of its items, as many as a stepped event of 64 steps has; those past them are 0, as `entry_of`
+// has them. An array beside a count, since library crates have no heap.
 #[derive(Clone, Copy)]
 pub struct Entry {
     pub kind: Sort,
