@@ -35,16 +35,9 @@ unfolding row_of
 row_at_most typ = number_at_most typ types
 
 -- the library's search of a list finds what is listed
-pub listed_by_any : (x : ℕ) (ys : List ℕ) → list_any (λ y. eqb y x) ys ≡ listed x ys
+pub listed_by_any : (x : ℕ) (ys : List ℕ) → list_any (λ y. eqb x y) ys ≡ listed x ys
 listed_by_any x [] = refl
-listed_by_any x (y ∷ ys) = λ i. turned i || listed_by_any x ys i
-  where
-    go : Tested (eqb x y) → eqb y x ≡ eqb x y
-    go (holds e) = eq-eqb y x (sym (eqb-true x y e)) ∙ sym e
-    go (fails e) = ne_eqb y x (λ s. eqb-false x y e (sym s)) ∙ sym e
-
-    turned : eqb y x ≡ eqb x y
-    turned = go (test (eqb x y))
+listed_by_any x (y ∷ ys) = ap (λ b. eqb x y || b) (listed_by_any x ys)
 
 -- no row of the table has a level past the last
 in_at_most : (voltage : ℕ) (rs : List Voltage) → every (λ r. leb r.1 levels) rs ≡ true → level_in voltage rs ≤ levels

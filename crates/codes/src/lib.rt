@@ -1,7 +1,8 @@
 // The code lists of section 9 of the annex: event types and their rows in the ledger, voltages and their levels, causes, and the sets of types.
 #![tactic(auto)]
 
-ghost use Rattle.std.specs.Prelude.{◌≡◌};
+ghost use Rattle.std.specs.Prelude.{◌≡◌, ◌==◌};
+ghost use Rattle.std.specs.List.{list_any};
 ghost use Rattle.codes.specs.Codes.{row_of, level_in, level_of, cause_listed, row_held};
 ghost use Rattle.codes.specs.declared.Set.TheVariants.{Std};
 
@@ -70,10 +71,10 @@ pub fn row_of(typ: u8) -> u8
 }
 
 // The lookup: the level in the first row that has the code; NO_LEVEL where none has it.
-fn level_in(table: [Voltage; 7], voltage: u8) -> u8
-    ensures { result ≡ level_in voltage table }
+fn level_in(table: &[Voltage; 7], voltage: u8) -> u8
+    ensures { result ≡ level_in voltage table.now }
 {
-    for row in &table {
+    for row in table {
         if voltage == row.0 {
             return row.1;
         }
@@ -85,14 +86,21 @@ fn level_in(table: [Voltage; 7], voltage: u8) -> u8
 pub fn level_of(voltage: u8) -> u8
     ensures { result ≡ level_of voltage }
 {
-    level_in(VOLTAGES, voltage)
+    level_in(&VOLTAGES, voltage)
+}
+
+// The lookup, in a table of codes. At a constant table the compiler makes one test of bits of it.
+fn in_table(table: &[u8], code: u8) -> bool
+    ensures { result ≡ list_any (λ listed. code == listed) table.now }
+{
+    table.iter().any(|listed| code == *listed)
 }
 
 // Whether a cause is listed; 0 means not recorded and counts as listed.
 pub fn is_cause(cause: u8) -> bool
     ensures { result ≡ cause_listed cause }
 {
-    (cause == 0) | CAUSES.contains(&cause)
+    (cause == 0) | in_table(&CAUSES, cause)
 }
 
 // Whether a row is that of a compliance type: 11, 12 or 2.

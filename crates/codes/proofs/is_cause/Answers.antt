@@ -8,4 +8,4 @@ use Rattle.codes.proofs.is_cause.Goals as goal
 
 pub returns : goal.returns
 unfolding causes cause_listed
-returns c = ap (λ b. eqb c.args.cause 0 || b) (c.contains.ensures.value ∙ listed_by_any c.args.cause causes)
+returns c = ap (λ b. eqb c.args.cause 0 || b) (c.in_table.ensures ∙ listed_by_any c.args.cause causes)
