@@ -184,6 +184,7 @@ pub fn lent_ledger(header: u64, words: &[u64]) -> Ledger
 
 // The answer of the call behind, whose ledger is written where there is one.
 #[tactic(auto, using(refusals::proofs::NumberLaws::number_above_0), unfolding(crate::specs::Inside::settled))]
+#[inline(always)]
 pub fn settle(header: u64, words: &mut [u64], taken: Result<Ledger, Refusal>) -> u32
     ensures { (result ≡ headed header (answer_in taken)) × (words.new ≡ settled header words.old (handed taken)) }
 {

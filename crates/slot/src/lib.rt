@@ -94,6 +94,7 @@ impl Slot {
 
     // Whether the slot holds zeros only. The figures are looked at only where all else is zero.
     #[tactic(auto, unfolding(crate::specs::Sound::is_free))]
+    #[inline(always)]
     pub fn is_free(&self) -> bool
         ensures { result ≡ is_free self.now }
     {
@@ -108,6 +109,7 @@ impl Slot {
     }
 
     // Whether the slot is sound as an open one. The first test that fails decides.
+    #[inline(never)]
     pub fn open_sound(&self) -> bool
         ensures { result ≡ open_sound self.now }
     {
@@ -139,6 +141,7 @@ impl Slot {
 
     // Whether the slot is sound. Of a free one nothing more is asked.
     #[tactic(auto, unfolding(crate::specs::Sound::slot_sound))]
+    #[inline(always)]
     pub fn sound(&self) -> bool
         ensures { result ≡ slot_sound self.now }
     {
