@@ -82,7 +82,8 @@ fn larger(c: Customers, n: u32) -> Customers
     if c.0 < m { Customers(m) } else { c }
 }
 
-// So many customers off for so many minutes, in halves.
+// So many customers off for so many minutes, in halves. The bound on minutes is asked here, of `longer` and of `with_step`: a type for them would be made and taken
+// apart again at each of the four calls.
 fn weigh(n: u64, minutes: u32) -> u64
     requires { (n ≤ 8589934590) × (minutes ≤ latest) }
     ensures { (result ≡ n * minutes) × (result ≤ 8589934590 * minutes) }
@@ -99,6 +100,7 @@ fn longer(h: HalfMinutes, n: u32, minutes: u32) -> HalfMinutes
 }
 
 impl Figures {
+    // What an event that is short adds. Named for that: `Figures::default()` would not say it.
     pub fn none() -> Figures
         ensures { result ≡ nothing }
     {

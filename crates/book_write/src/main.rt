@@ -137,7 +137,7 @@ impl<'a, P: Print, E: Print> Text<'a, P, E> {
     // One line, whose bytes are put behind those that wait where the book is to be written.
     fn take_line(&mut self, line: &[u8]) -> Result<(), Told> {
         let entry = match text_parse::parse(line, self.year) {
-            Ok(entry) => entry,
+            Ok(parsed) => parsed.entry,
             Err(wrong) => {
                 self.tell_wrong(line, wrong);
                 return Err(Told);

@@ -16,49 +16,41 @@ use refusals::Refusal;
 pub fn index_named(code: u32) -> Index
     ensures { result ≡ index_named code }
 {
-    if code == 1 {
-        return Index::Saifi;
+    match code {
+        1 => Index::Saifi,
+        2 => Index::Saidi,
+        _ => Index::Caidi,
     }
-    if code == 2 {
-        return Index::Saidi;
-    }
-    Index::Caidi
 }
 
 // The level that a code names.
 pub fn level_named(code: u32) -> Level
     ensures { result ≡ level_named code }
 {
-    if code == 1 {
-        return Level::NN;
+    match code {
+        1 => Level::NN,
+        2 => Level::VN,
+        3 => Level::VVN,
+        _ => Level::Network,
     }
-    if code == 2 {
-        return Level::VN;
-    }
-    if code == 3 {
-        return Level::VVN;
-    }
-    Level::Network
 }
 
 // The set that a code names.
 pub fn set_named(code: u32) -> Set
     ensures { result ≡ set_named code }
 {
-    if code == 0 {
-        return Set::Unnamed;
+    match code {
+        0 => Set::Unnamed,
+        1 => Set::All,
+        _ => Set::Std,
     }
-    if code == 1 {
-        return Set::All;
-    }
-    Set::Std
 }
 
 // Whether each code names one.
 pub fn all_named(index: u32, level: u32, set: u32) -> bool
     ensures { result ≡ all_named index level set }
 {
-    (1 <= index) & (index <= 3) & ((1 <= level) & (level <= 4)) & (set <= 2)
+    (1..=3).contains(&index) && (1..=4).contains(&level) && set <= 2
 }
 
 // An index's answer as two numbers: top and bottom, or the whole part and the digits.

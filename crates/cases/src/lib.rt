@@ -203,7 +203,10 @@ pub fn entry_told(line: &[u8]) -> Option<Entry>
     ensures told { IsSome result ↔ ((parsed_of line.now 0).answer ≡ 0) }
     ensures entry { IfSome result (λ entry. entry_in entry ≡ (parsed_of line.now 0).entry) }
 {
-    text_parse::parse(line, 0).ok()
+    match text_parse::parse(line, 0) {
+        Ok(parsed) => Some(parsed.entry),
+        Err(_) => None,
+    }
 }
 
 // The bytes that such a line stands for, put at the front of a buffer: how many. None for any other line.

@@ -10,7 +10,8 @@ pub const ROWS: usize = 7;
 
 pub const LEVELS: usize = 3;
 
-// The row of a type, and the level of a voltage, that is not listed: the one past the last.
+// The row of a type, and the level of a voltage, that is not listed: the one past the last. It is no None: `event_verdict` has it as a verdict's row, and
+// `above_level` and `head_listed` compare it as a number.
 pub const NO_ROW: u8 = ROWS as u8;
 
 pub const NO_LEVEL: u8 = LEVELS as u8;
@@ -22,7 +23,7 @@ pub const MOST_CUSTOMERS: u32 = 10000000;
 
 pub const MOST_EVENTS: u16 = 65535;
 
-// The levels, lowest first.
+// The levels, lowest first: numbers, as the table `voltages` and the row's place of a level have them.
 const NN: u8 = 0;
 
 const VN: u8 = 1;

@@ -21,7 +21,7 @@ fn roll_of(desk: &[Slot]) -> Roll
 {
     let mut roll = Roll::none();
     for (i, slot) in desk.iter().enumerate() {
-        roll.enter(i, *slot);
+        roll.enter(i, slot);
     }
     roll
 }

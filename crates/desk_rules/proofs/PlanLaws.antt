@@ -156,10 +156,6 @@ module _ (k : Look) (slots : ℕ) (l : Ledger) (m s : List ℕ) where
   unfolding plan_of plan_at
   plan_by_kind u f = ap (λ a. cond (eqb a 0) (accepted_plan (kind_of s) k l s) (refused_plan l slots a)) (framed_by_kind u f)
 
--- a kind that is none of the three is no message
-pub no_message : (kind : ℕ) → (kind ≡ 16 → ⊥) → (kind ≡ 17 → ⊥) → (kind ≡ 18 → ⊥) → by_message kind true true true ≡ false
-no_message kind a b c = rw (ne_eqb kind 16 a, ne_eqb kind 17 b, ne_eqb kind 18 c)
-
 -- a message of the right length: the tests that are left, in order
 module _ (k : Look) (l : Ledger) (m s : List ℕ) where
   pub open_answer :
@@ -209,11 +205,6 @@ module _ (k : Look) (l : Ledger) (m s : List ℕ) where
   -- an accepted step's time is in order
   pub step_timely : answer_at 17 k l m s ≡ 0 → (k.slot.last ≤ (step_in s).time) × ((step_in s).time ≤ latest)
   step_timely e = in_time k.slot.last (step_in s).time (answered_rules 17 k 0 l m s e 10)
-
--- an accepted event's verdict answers 0
-pub event_answer : (sheet : Sheet) (h : Head) (end : ℕ) (f : Figures) → (event_verdict sheet h end f).answer ≡ 0
-unfolding event_verdict
-event_answer sheet h end f = refl
 
 -- a sound ledger has room for the event that an accepted close adds
 pub close_fits :

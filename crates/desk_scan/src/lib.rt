@@ -42,7 +42,7 @@ fn numbers_differ(table: &[u16; SLOTS]) -> bool
 }
 
 impl Roll {
-    // Before the first slot.
+    // Before the first slot: sound so far, which a default is not.
     pub fn none() -> Roll
         ensures { result ≡ no_roll }
     {
@@ -54,8 +54,8 @@ impl Roll {
 
     // Enters the slot at an index: its number, as far as the numbers reach, and whether all slots so far are sound.
     #[tactic(auto, unfolding(crate::specs::Inside::rolled_slot))]
-    pub fn enter(&mut self, at: usize, slot: Slot)
-        ensures { self.new ≡ rolled_slot self.old at slot }
+    pub fn enter(&mut self, at: usize, slot: &Slot)
+        ensures { self.new ≡ rolled_slot self.old at slot.now }
     {
         if at < SLOTS {
             self.numbers[at] = slot.head.number;

@@ -7,6 +7,7 @@ use lib.ListN.{length}
 use lib.Dec.{ltb, eqb}
 use native.Mathlib.Omega.{arith}
 use native.Mathlib.Nat.{add-zero}
+use borrow.Author.Tests.{eq-eqb, ne_eqb}
 use Rattle.std.specs.Prelude.{Ok, Err}
 use Rattle.base.proofs.TestLaws.{Tested, holds, fails, test}
 use Rattle.wire.specs.declared.Place.TheVariants.{Record}
@@ -141,3 +142,11 @@ module _ (t : Table) (file : List ℕ) where
       -- what is told of the file after its run: a broken length is one refusal more, and else nothing is added
       pub file_told : (b : Bool) → pass.which ≡ cond b 2 1 → record { answer = 0; table = pass.table; refused = pass.refused + cond b 1 0; broken = b } ≡ file_of t file
       file_told b e = by_run b (ap (λ (n : ℕ). eqb n 2) e ∙ run.which_tells b)
+
+      pub file_broken : pass.which ≡ 2 → record { answer = 0; table = pass.table; refused = pass.refused + 1; broken = true } ≡ file_of t file
+      file_broken two = by_run true (eq-eqb pass.which 2 two)
+
+      pub file_whole : (pass.which ≡ 2 → ⊥) → record { answer = 0; table = pass.table; refused = pass.refused; broken = false } ≡ file_of t file
+      file_whole other =
+          (λ i. record { answer = 0; table = pass.table; refused = sym (add-zero pass.refused) i; broken = false }) ∙
+          by_run false (ne_eqb pass.which 2 other)

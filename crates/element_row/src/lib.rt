@@ -39,7 +39,7 @@ impl Row {
         }
     }
 
-    // With its stock told, in pieces (0) or as a line (1).
+    // With its stock told, in pieces (0) or as a line (1): the record's byte, which is the mark less one, and a number as the mark is.
     pub fn with_stock(self, unit: u8, amount: u32) -> Row
         requires { unit ≤ 1 }
         ensures { result ≡ with_stock self unit amount }

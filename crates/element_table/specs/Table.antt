@@ -26,7 +26,7 @@ begun period = record { period = period; seen = false; rows = replicate element_
 abbrev pub period_within : ℕ → Bool
 period_within period = leb 1 period && leb period 50
 
--- 24: "a period outside 1 to 50"; the table that is then handed out has no period, and every call refuses it
+-- 24: "a period outside 1 to 50"; the table that stands beside it has no period, and every call refuses it
 unfoldable pub begin_of : ℕ → Filed
 begin_of period = cond (period_within period) (record { answer = 0; table = begun period }) (record { answer = 24; table = begun 0 })
 

@@ -9,7 +9,7 @@ ghost use Rattle.element_row.specs.Row.{row_within};
 ghost use Rattle.element_table.specs.Table.{filed_in, row_or, begun, begin_of, file_begun, sound_table};
 ghost use Rattle.element_table.specs.Rules.{answer_of};
 ghost use Rattle.element_table.specs.Kind.{number_of_kind, IsKind, answer_at};
-ghost use Rattle.element_table.specs.Take.{with_row, accepted_at, taken_of};
+ghost use Rattle.element_table.specs.Take.{with_row, taken_of};
 
 use element_row::Row;
 use refusals::Refusal;
@@ -137,15 +137,14 @@ impl Table {
         self
     }
 
-    // The table with a record of a kind that is not refused.
-    fn with_record(self, kind: Kind, bytes: &[u8]) -> Table
-        requires kind { kind_of bytes.now ≡ number_of_kind kind }
-        requires accepted { answer_of self bytes.now ≡ 0 }
-        ensures { result ≡ accepted_at (kind_of bytes.now) self bytes.now }
+    // One record of a yearly file: the next table. A refused record leaves the table as it was.
+    pub fn take(self, bytes: &[u8]) -> Result<Table, Refusal>
+        ensures { filed_in self result ≡ taken_of self bytes.now }
     {
+        let kind = self.accepted_kind(bytes)?;
         let at = element_codes::row_of(wire::u16_at(bytes, 4));
         let row = row_at(&self.rows, at);
-        match kind {
+        Ok(match kind {
             Kind::Sheet => Table { seen: true, ..self },
             Kind::Outage => {
                 let minutes = wire::u32_at(bytes, 10) - wire::u32_at(bytes, 6);
@@ -155,14 +154,6 @@ impl Table {
                 at,
                 row.with_stock(wire::byte_at(bytes, 6), wire::u32_at(bytes, 7)),
             ),
-        }
-    }
-
-    // One record of a yearly file: the next table. A refused record leaves the table as it was.
-    pub fn take(self, bytes: &[u8]) -> Result<Table, Refusal>
-        ensures { filed_in self result ≡ taken_of self bytes.now }
-    {
-        let kind = self.accepted_kind(bytes)?;
-        Ok(self.with_record(kind, bytes))
+        })
     }
 }

@@ -51,12 +51,10 @@ fn complain(rt: &impl Eprint, why: &str) {
 }
 
 fn main(rt: HostRuntime) {
-    let book = input::read_book(&mut rt.stdin());
-    if book.failed {
+    let Ok(read) = input::read_book(&mut rt.stdin()) else {
         complain(&rt, "standard input cannot be read");
         return;
-    }
-    let read = book.read;
+    };
     let head = report::with_head(Text::empty(), read.ledger, read.refused);
     if !(say(&rt, head) & say_figures(&rt, read.ledger)) {
         complain(&rt, "the figures cannot be written");

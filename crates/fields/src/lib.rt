@@ -8,7 +8,7 @@ ghost use Rattle.fields.specs.Tests.{in_range, head_listed};
 use annex::{Simple, Step};
 use codes::LEVELS;
 
-// The year sheet, or none: then all is zero. This is no Option: a sheet that C callers lend may have numbers without being there, and is answered 1.
+// The year sheet, or none: then all is zero. It is no Option, since a sheet that C callers lend may have numbers and not be there, which is answered 1.
 #[derive(Clone, Copy)]
 pub struct Sheet {
     pub there: bool,
@@ -21,6 +21,7 @@ pub struct Sheet {
 #[derive(Clone, Copy)]
 pub struct Head {
     pub number: u16,
+    // Type, voltage and cause as a record has them, listed or not.
     pub typ: u8,
     pub voltage: u8,
     pub cause: u8,
@@ -79,7 +80,7 @@ pub fn step_at(s: &[u8], at: usize) -> Step
 }
 
 impl Sheet {
-    // No sheet.
+    // No sheet, which `Sheet::default()` would not say.
     pub fn none() -> Sheet
         ensures { result ≡ no_sheet }
     {

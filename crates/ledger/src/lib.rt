@@ -63,7 +63,7 @@ impl Cell {
     }
 }
 
-// Whether each of a row's cells is within the bounds that so many events set. Every cell is tested: that costs less than stopping at the first that is not.
+// Whether each of a row's cells is within the bounds that so many events set. All are tested, so that none waits for the test of another.
 fn levels_within(levels: [Cell; LEVELS], events: u16) -> bool
     ensures { result ≡ every (cell_within events) levels }
 {
@@ -75,7 +75,7 @@ fn levels_within(levels: [Cell; LEVELS], events: u16) -> bool
 }
 
 impl TypeRow {
-    // Nothing on any level.
+    // Nothing on any level. Named as `Ledger::empty` and `Figures::none` are.
     pub fn none() -> TypeRow
         ensures { result ≡ empty_row }
     {

@@ -4,7 +4,7 @@ use mathlib.Core.Path.{◌≡◌, refl, sym, ap, ◌∙◌}
 use mathlib.Core.Bool.{Bool, true, false, ◌&&◌, and-false}
 use mathlib.Core.List.{List, [], ◌∷◌}
 use lib.Dec.{eqb, ltb, leb}
-use lib.ListN.{length, drop, get_or, drop_of_length-le}
+use lib.ListN.{length, drop, get_or}
 use lib.Seq.{drop-cons}
 use native.Mathlib.Omega.{arith}
 use native.Mathlib.Numerals.{add-one}
@@ -53,16 +53,7 @@ module _ (s w : List ℕ) where
   unfolding is_alike
   alike_parted e = sym (ap (λ (t : Bool). t && parted_here (drop (length w) s)) e)
 
--- letters behind gaps: at a comment, at one, past any other byte, and at the line's end
+-- past a byte that is no letter behind a gap, and begins no comment, letters are looked for behind it
 module _ (s : List ℕ) (i : ℕ) (behind : Bool) where
-  pub letters_comment : i < length s → get_or s i 0 ≡ 35 → letters_in behind (drop i s) ≡ false
-  letters_comment h e = rw (drop-cons s i 0, e)
-
-  pub letters_here : i < length s → eqb (get_or s i 0) 35 ≡ false → (behind && is_letter (get_or s i 0)) ≡ true → letters_in behind (drop i s) ≡ true
-  letters_here h n e = rw (drop-cons s i 0, n, e)
-
   pub letters_later : i < length s → eqb (get_or s i 0) 35 ≡ false → (behind && is_letter (get_or s i 0)) ≡ false → letters_in behind (drop i s) ≡ letters_in (is_gap (get_or s i 0)) (drop (i + 1) s)
   letters_later h n e = rw (add-one, drop-cons s i 0, n, e)
-
-  pub letters_none : length s ≤ i → letters_in behind (drop i s) ≡ false
-  letters_none h = rw (drop_of_length-le s h)

@@ -1,7 +1,7 @@
 // What stands in a refused line in the place of what was expected: what spreadsheets and people write often, so that it can be named.
 #![tactic(auto, unfolding(crate::specs::Likeness::is_letter, crate::specs::Likeness::is_header, crate::specs::Likeness::is_mark, crate::specs::Likeness::any_alike, crate::specs::Likeness::word_like, crate::specs::Likeness::item_like, crate::specs::Likeness::marks_time, crate::specs::Likeness::time_goes_on, crate::specs::Likeness::gap_like, crate::specs::Likeness::likeness_of))]
 
-ghost use Rattle.std.specs.Prelude.{◌≡◌, false};
+ghost use Rattle.std.specs.Prelude.{◌≡◌, ◌||◌, false, eqb};
 ghost use Rattle.text_items.specs.Sorts.{item_number};
 ghost use Rattle.text_scan.specs.Outcomes.{expected_number};
 ghost use Rattle.likeness.specs.Likeness.{is_letter, begins_alike, any_alike, letters_in, word_like, item_like, marks_time, time_goes_on, gap_like, likeness_of};
@@ -141,6 +141,16 @@ fn gap_like(s: &[u8], item: Item) -> Option<Likeness>
     None
 }
 
+// Whether an item was expected where it does not stand: a number, a time or two hexadecimal digits.
+fn asks_item(expected: Expected) -> bool
+    ensures { result ≡ (eqb (expected_number expected) 2 || (eqb (expected_number expected) 6 || eqb (expected_number expected) 9)) }
+{
+    matches!(
+        expected,
+        Expected::Number | Expected::Time | Expected::TwoDigits
+    )
+}
+
 // What stands at a place of a line that was refused there, by what was expected; the year is that of the sheet before it.
 pub fn likeness_of(line: &[u8], at: usize, expected: Expected, year: u16) -> Option<Likeness>
     ensures { like_number result ≡ likeness_of line.now at (expected_number expected) year }
@@ -149,7 +159,7 @@ pub fn likeness_of(line: &[u8], at: usize, expected: Expected, year: u16) -> Opt
     match expected {
         Expected::Word => word_like(s),
         Expected::Gap => gap_like(s, text_parse::item_refused(line, year)),
-        Expected::Number | Expected::Time | Expected::TwoDigits => item_like(s, expected),
+        _ if asks_item(expected) => item_like(s, expected),
         _ => None,
     }
 }

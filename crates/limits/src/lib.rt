@@ -22,7 +22,8 @@ pub fn is_above(counts: [u32; LEVELS], level: u8) -> bool
     ((level < 1) & (0 < counts[1])) | ((level < 2) & (0 < counts[2]))
 }
 
-// The same two tests of the largest counts of all steps: some step's count exceeds, or stands above, just where the largest does.
+// The same two tests of the largest counts of all steps: some step's count exceeds, or stands above, just where the largest does. One function for both kinds of
+// counts would take them as an array of one type, which is as long to make as each test is.
 pub fn figures_exceed(figures: Figures, totals: [u32; LEVELS]) -> bool
     ensures { result ≡ exceeding_figures totals figures }
 {

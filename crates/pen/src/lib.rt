@@ -34,7 +34,7 @@ impl Pen<'_> {
         }
     }
 
-    // A number in decimal digits, the most significant first.
+    // A number in decimal digits, the most significant first. Not by a text: `zero_as_space` and `digit_skipped` are wrong programs of this body.
     pub fn put_number(&mut self, n: u32)
         ensures { self.new ≡ inked self.old (number_text n) }
     {

@@ -28,7 +28,7 @@ use Rattle.walk.specs.Walk.{set_out, walked}
 use Rattle.walk.proofs.WalkLaws.{walked_late, walked_figures, exceed_by_largest, above_by_largest}
 use Rattle.verdict.specs.Verdict.{Verdict, refused_with, event_verdict}
 use Rattle.record.specs.Rules.{by_kind, rules, rules_at, length_wrong}
-use Rattle.record.specs.Inside.{simple_tests, stepped_tests, answer_at, verdict_at}
+use Rattle.record.specs.Inside.{first_of, simple_tests, stepped_tests, answer_at, verdict_at}
 use Rattle.record.specs.Verdict.{accepted_at, record_answer, verdict_of}
 
 module _ (kind : ℕ) (s : List ℕ) (sheet : Sheet) (m : List ℕ) (events : ℕ) where
@@ -107,12 +107,8 @@ module _ (kind : ℕ) (s : List ℕ) (sheet : Sheet) (m : List ℕ) (events : �
   unfolding answer_at
   answered_rules e = clear_at (rules_at kind s sheet m events) (clear 2 (rules_at kind s sheet m events) (tt, (tt, (tt, (tt, (tt, (tt, (tt, (tt, (tt, (tt, (tt, tt))))))))))) e)
 
--- the first four tests of an event, before the number that the rest answers
-abbrev first_of : Bool → Bool → Bool → Bool → ℕ → ℕ
-first_of c5 c7 c10 c11 rest = cond c5 5 (cond c7 7 (cond c10 10 (cond c11 11 rest)))
-
 -- where 10 applies, what comes after it does not matter
-ten_hides : (c5 c7 c10 : Bool) → c10 ≡ true → (a b : Bool) (r s : ℕ) → first_of c5 c7 c10 a r ≡ first_of c5 c7 c10 b s
+pub ten_hides : (c5 c7 c10 : Bool) → c10 ≡ true → (a b : Bool) (r s : ℕ) → first_of c5 c7 c10 a r ≡ first_of c5 c7 c10 b s
 ten_hides c5 c7 c10 e a b r s =
     ap (λ t. cond c5 5 (cond c7 7 (cond t 10 (cond a 11 r)))) e ∙ ap (λ t. cond c5 5 (cond c7 7 (cond t 10 (cond b 11 s)))) (sym e)
 

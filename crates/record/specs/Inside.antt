@@ -1,6 +1,6 @@
 -- Inner vocabulary: the tests that an event of the right length meets, in the order of checking, of the fields that were read; the rules read at a
 -- kind; and what the ledger may rely on in a verdict.
-use Rattle.std.specs.Prelude.{ℕ, ◌+◌, ◌*◌, ◌<◌, ◌≤◌, List, [], ◌∷◌, ◌||◌, not, cond, true, false, leb, eqb, ◌≡◌, ◌⊎◌}
+use Rattle.std.specs.Prelude.{ℕ, ◌+◌, ◌*◌, ◌<◌, ◌≤◌, List, [], ◌∷◌, Bool, ◌||◌, not, cond, true, false, leb, eqb, ◌≡◌, ◌⊎◌}
 use Rattle.base.specs.First.{Rule, first}
 use Rattle.codes.specs.Codes.{level_of, rows, levels}
 use Rattle.codes.specs.Ranges.{most_events}
@@ -16,6 +16,10 @@ use Rattle.annex.specs.Figure.{Figure, figure_at, most_of}
 use Rattle.verdict.specs.Verdict.{Verdict, refused_with}
 use Rattle.record.specs.Rules.{rules_at}
 use Rattle.record.specs.Verdict.{accepted_at}
+
+-- the first four of them, before the number that the rest answers
+abbrev pub first_of : Bool → Bool → Bool → Bool → ℕ → ℕ
+first_of c5 c7 c10 c11 rest = cond c5 5 (cond c7 7 (cond c10 10 (cond c11 11 rest)))
 
 -- of a simple event
 abbrev pub simple_tests : Head → Simple → Sheet → List ℕ → ℕ → List Rule

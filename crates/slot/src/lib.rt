@@ -21,8 +21,8 @@ pub struct Slot {
 }
 
 // Whether all customers are zero.
-fn no_customers(figures: Figures) -> bool
-    ensures { result ≡ no_customers figures }
+fn no_customers(figures: &Figures) -> bool
+    ensures { result ≡ no_customers figures.now }
 {
     figures.customers.iter().all(|c| c.0 == 0)
 }
@@ -38,7 +38,7 @@ fn level_within(customers: Customers, halves: HalfMinutes, minutes: u32) -> bool
 }
 
 impl Slot {
-    // Zeros only.
+    // Zeros only. Written out, since a default of it would need one of each type in it and say no more.
     pub fn free() -> Slot
         ensures { result ≡ free_slot }
     {
@@ -94,8 +94,8 @@ impl Slot {
 
     // Whether the slot holds zeros only. The figures are looked at only where all else is zero.
     #[tactic(auto, unfolding(crate::specs::Sound::is_free))]
-    pub fn is_free(self) -> bool
-        ensures { result ≡ is_free self }
+    pub fn is_free(&self) -> bool
+        ensures { result ≡ is_free self.now }
     {
         let unbegun = (self.head.number == 0)
             & (self.head.typ == 0)
@@ -104,12 +104,12 @@ impl Slot {
             & (self.head.t0 == 0)
             & (self.last == 0)
             & (self.steps == 0);
-        unbegun && no_customers(self.figures) && self.figures.halves.iter().all(|h| h.0 == 0)
+        unbegun && no_customers(&self.figures) && self.figures.halves.iter().all(|h| h.0 == 0)
     }
 
     // Whether the slot is sound as an open one. The first test that fails decides.
-    pub fn open_sound(self) -> bool
-        ensures { result ≡ open_sound self }
+    pub fn open_sound(&self) -> bool
+        ensures { result ≡ open_sound self.now }
     {
         if !self.head.listed() {
             return false;
@@ -134,13 +134,13 @@ impl Slot {
         if limits::figures_above(self.figures, codes::level_of(self.head.voltage)) {
             return false;
         }
-        (0 < self.steps) | ((self.last == self.head.t0) & no_customers(self.figures))
+        (0 < self.steps) | ((self.last == self.head.t0) & no_customers(&self.figures))
     }
 
     // Whether the slot is sound. Of a free one nothing more is asked.
     #[tactic(auto, unfolding(crate::specs::Sound::slot_sound))]
-    pub fn sound(self) -> bool
-        ensures { result ≡ slot_sound self }
+    pub fn sound(&self) -> bool
+        ensures { result ≡ slot_sound self.now }
     {
         self.is_free() || self.open_sound()
     }

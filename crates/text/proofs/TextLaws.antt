@@ -4,11 +4,10 @@ use Prim.Native.Nat.{ℕ, zero, suc, ◌+◌, ◌-◌, ◌*◌, ◌/◌, ◌%◌
 use mathlib.Core.Path.{◌≡◌, refl, sym, ap, ◌∙◌}
 use mathlib.Core.Bool.{Bool, true, ◌&&◌}
 use mathlib.Core.List.{List, [], ◌∷◌, ◌++◌, append-nil}
-use lib.ListN.{length, length-append, set, replicate, drop, get_or, drop_of_length-le}
-use lib.Seq.{drop-cons, set-append_seam, append_snoc}
+use lib.ListN.{length, length-append, set, replicate}
+use lib.Seq.{set-append_seam, append_snoc}
 use lib.Dec.{ltb, leb}
 use native.Mathlib.Omega.{arith}
-use native.Mathlib.Numerals.{add-one}
 use native.Mathlib.Nat.{pow-suc, mod-lt}
 use borrow.Author.Tests.{ltb-true, ltb-false, lt-ltb, le-ltb, lt-leb, le-leb}
 use Rattle.base.specs.Lists.{every}
@@ -16,21 +15,10 @@ use Rattle.base.proofs.TestLaws.{Tested, holds, fails, test, and_both, and_left,
 use Rattle.text.specs.declared.Text.{Text}
 use Rattle.text.specs.Text.{text_of, pushed, pushed_all, digits_in, number_text}
 
--- a full text is as it was, and any other has the byte where it ended
-pub full_stays : (t : Text) (b : ℕ) → 1024 ≤ t.len → pushed t b ≡ t
-unfolding pushed
-full_stays t b h = rw (le-leb 1024 t.len h) refl
-
+-- a text that is not full has the byte where it ended
 pub room_takes : (t : Text) (b : ℕ) → t.len < 1024 → pushed t b ≡ record { bytes = set t.bytes t.len b; len = t.len + 1 }
 unfolding pushed
 room_takes t b h = rw (lt-leb 1024 t.len h) refl
-
--- what is left of some words, and its first byte
-pub next_pushed : (t : Text) (i : ℕ) (words : List ℕ) → i < length words → pushed_all t (drop i words) ≡ pushed_all (pushed t (get_or words i 0)) (drop (i + 1) words)
-next_pushed t i words h = rw (add-one, drop-cons words i 0) refl
-
-pub none_pushed : (t : Text) (i : ℕ) (words : List ℕ) → length words ≤ i → pushed_all t (drop i words) ≡ t
-none_pushed t i words h = rw (drop_of_length-le words h) refl
 
 -- two pieces one after the other are their joined bytes
 pub pushed_all_append : (t : Text) (a b : List ℕ) → pushed_all t (a ++ b) ≡ pushed_all (pushed_all t a) b

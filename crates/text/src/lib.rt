@@ -4,7 +4,7 @@
 ghost use Rattle.std.specs.Prelude.{◌≡◌, []};
 ghost use Rattle.text.specs.Text.{text_of, pushed, pushed_all, number_text, two_text};
 
-// The text, and how long it is; the bytes past it are 0.
+// The text, and how long it is; the bytes past it are 0, as `text_of` has them. An array beside a length, since library crates have no heap.
 #[derive(Clone, Copy)]
 pub struct Text {
     pub bytes: [u8; 1024],
@@ -23,33 +23,30 @@ impl Text {
     }
 
     // The text with one byte more; a full one stays as it is.
+    #[tactic(auto, unfolding(crate::specs::Text::pushed))]
     pub fn with_byte(self, b: u8) -> Text
         ensures { result ≡ pushed self b }
     {
-        let at = self.len;
-        if 1024 <= at {
-            return self;
+        let mut text = self;
+        if text.len < 1024 {
+            text.bytes[text.len] = b;
+            text.len += 1;
         }
-        let mut next = self;
-        next.bytes[at] = b;
-        next.len = at + 1;
-        next
+        text
     }
 
     // The text with some words more.
     pub fn with_words(self, words: &[u8]) -> Text
         ensures { result ≡ pushed_all self words.now }
     {
-        let mut t = self;
-        let mut i = 0;
-        while i < words.len() {
-            t = t.with_byte(words[i]);
-            i += 1;
+        let mut text = self;
+        for &b in words {
+            text = text.with_byte(b);
         }
-        t
+        text
     }
 
-    // The text with a number in decimal digits, the most significant first.
+    // The text with a number in decimal digits, the most significant first. Not by a pen: `zero_as_space` and `number_turned` are wrong programs of this body.
     pub fn with_number(self, n: u64) -> Text
         ensures { result ≡ pushed_all self (number_text n) }
     {

@@ -3,6 +3,10 @@ use mathlib.Core.Path.{refl}
 use Rattle.base.proofs.OneOutcome.{OneOutcome, alike, SeenAlike}
 use Rattle.text_items.proofs.SortLaws.{same_item}
 use Rattle.text_items.proofs.Entry.items.Reads as items
+use Rattle.text_items.proofs.SortFromU8.from.Kinds as sort-from-kinds
+use Rattle.text_items.proofs.SortFromU8.from.Reads as sort_from
+use Rattle.text_items.proofs.ItemFromU8.from.Kinds as item-from-kinds
+use Rattle.text_items.proofs.ItemFromU8.from.Reads as item_from
 use Rattle.text_items.proofs.item_of.Kinds as item-of-kinds
 use Rattle.text_items.proofs.item_of.Reads as item_of
 use Rattle.text_items.proofs.most_of.Kinds as most-of-kinds
@@ -26,3 +30,9 @@ bar_before_one κs a x y v w p q = (alike p q, refl)
 
 pub items_one : SeenAlike items.Post (λ κs x. x.now)
 items_one κs a x y s t p q = alike p q
+
+pub sort_from_one : OneOutcome sort-from-kinds.ps sort-from-kinds.r sort_from.Post
+sort_from_one κs a x y v w p q = (alike p q, refl)
+
+pub item_from_one : OneOutcome item-from-kinds.ps item-from-kinds.r item_from.Post
+item_from_one κs a x y v w p q = (alike p q, refl)

@@ -1,5 +1,5 @@
 -- The numbers by which the definitions know the sorts of line and of item.
-use Rattle.std.specs.Prelude.{ℕ}
+use Rattle.std.specs.Prelude.{ℕ, cond, eqb}
 use Rattle.text_items.specs.Entry.{Entry}
 use Rattle.text_items.specs.declared.Entry.{Entry as CodeEntry}
 use Rattle.text_items.specs.declared.Sort.{Sort}
@@ -24,3 +24,10 @@ item_number Digits = 5
 -- what the code's entry says, in numbers
 abbrev pub entry_in : CodeEntry → Entry
 entry_in e = record { kind = sort_number e.kind; count = e.count; values = e.values }
+
+-- the sort of line, and of item, that a number names; any other number is taken for a blank line, and for a number of 4 bytes
+abbrev pub sort_of : ℕ → Sort
+sort_of n = cond (eqb n 1) Sheet (cond (eqb n 2) Simple (cond (eqb n 3) Stepped (cond (eqb n 4) Hex Blank)))
+
+abbrev pub item_named : ℕ → Item
+item_named n = cond (eqb n 1) Byte (cond (eqb n 2) Pair (cond (eqb n 4) Time (cond (eqb n 5) Digits Count)))

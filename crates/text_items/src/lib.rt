@@ -3,7 +3,7 @@
 
 ghost use Rattle.std.specs.Prelude.{◌≡◌, take};
 ghost use Rattle.text_items.specs.Shape.{item_of, most_of, whole_of, bar_before};
-ghost use Rattle.text_items.specs.Sorts.{sort_number, item_number};
+ghost use Rattle.text_items.specs.Sorts.{sort_number, item_number, sort_of, item_named};
 
 // The sorts of line. A sheet, a simple and a stepped event are the records that they stand for; a line of bytes stands for what no other line expresses.
 #[derive(Clone, Copy, Debug, PartialEq, Eq)]
@@ -25,7 +25,38 @@ pub enum Item {
     Digits,
 }
 
-// What a line says: its sort, and the numbers of its items, as many as a stepped event of 64 steps has; those past them are 0.
+// A number of a sort of line, and of item. One that is none's is taken for a line that says nothing, and for a number of 4 bytes: what is asked of it below is
+// then what the definitions answer to it (`SortLaws`).
+impl From<u8> for Sort {
+    ghost from_gives = { λ number sort. sort ≡ sort_of number };
+
+    fn from(number: u8) -> Sort {
+        match number {
+            1 => Sort::Sheet,
+            2 => Sort::Simple,
+            3 => Sort::Stepped,
+            4 => Sort::Hex,
+            _ => Sort::Blank,
+        }
+    }
+}
+
+impl From<u8> for Item {
+    ghost from_gives = { λ number item. item ≡ item_named number };
+
+    fn from(number: u8) -> Item {
+        match number {
+            1 => Item::Byte,
+            2 => Item::Pair,
+            4 => Item::Time,
+            5 => Item::Digits,
+            _ => Item::Count,
+        }
+    }
+}
+
+// What a line says: its sort, and the numbers of its items, as many as a stepped event of 64 steps has; those past them are 0, as `entry_of`
+// has them. An array beside a count, since library crates have no heap.
 #[derive(Clone, Copy)]
 pub struct Entry {
     pub kind: Sort,

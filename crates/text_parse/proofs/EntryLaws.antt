@@ -17,7 +17,7 @@ use Rattle.text_scan.specs.Found.{Found}
 use Rattle.text_scan.specs.Scan.{read, said_at, gaps_in, ends_here, parted_here, separator_of, other_at, gap_said, item_found}
 use Rattle.text_scan.proofs.ScanLaws.{part_is_rest, gaps_short, item_short, said_short}
 use Rattle.text_parse.specs.Records.{Word, Parsed}
-use Rattle.text_items.specs.declared.Entry.{Entry}
+use Rattle.text_parse.specs.declared.Parsed.{Parsed as Told}
 use Rattle.text_items.specs.declared.Sort.TheVariants.{Blank}
 use Rattle.text_items.specs.Sorts.{sort_number}
 use Rattle.text_scan.specs.declared.Wrong.{Wrong}
@@ -300,20 +300,10 @@ module _ (answer at kind count : ℕ) (values : List ℕ) where
     unfolding ended_by
     ended_whole e = passed_over _ _ (not (eqb answer 255)) (ap not ended) ∙ passed_over _ _ (not (whole_of kind count)) (ap not e)
 
--- an outcome stands at the place that it was asked at
-pub ended_at : (answer at kind count : ℕ) (values : List ℕ) → (ended_by answer at kind count values).at ≡ at
-unfolding ended_by
-ended_at answer at kind count values = go (test (eqb answer 255)) (test (whole_of kind count))
-  where
-    go : Tested (eqb answer 255) → Tested (whole_of kind count) → (ended_by answer at kind count values).at ≡ at
-    go (fails e) w = ap (λ (p : Parsed). p.at) (ended_other answer at kind count values e)
-    go (holds e) (fails w) = ap (λ (p : Parsed). p.at) (ended_few answer at kind count values e w)
-    go (holds e) (holds w) = ap (λ (p : Parsed). p.at) (ended_whole answer at kind count values e w)
-
 -- what is told of an outcome in numbers, where the place and the definition are known by other names
-pub outcome_is : (p : Parsed) (answer at kind count : ℕ) (values : List ℕ) (r : Result Entry Wrong) → p ≡ ended_by answer at kind count values → parsed_in at r ≡ ended_by answer at kind count values → parsed_in p.at r ≡ p
+pub outcome_is : (p : Parsed) (answer at kind count : ℕ) (values : List ℕ) (r : Result Told Wrong) → p ≡ ended_by answer at kind count values → parsed_in r ≡ ended_by answer at kind count values → parsed_in r ≡ p
 outcome_is p answer at kind count values r e told =
-    ap (λ (n : ℕ). parsed_in n r) (ap (λ (q : Parsed). q.at) e ∙ ended_at answer at kind count values) ∙ told ∙ sym e
+    told ∙ sym e
 
 -- the outcome of a line of which k items are read, where the rest from a place on has n turns left
 unfoldable pub going_on : ℕ → List ℕ → ℕ → ℕ → ℕ → ℕ → ℕ → List ℕ → Parsed
@@ -393,29 +383,29 @@ module _ (line : List ℕ) (at kind k year sep : ℕ) where
   item_there : (value used : ℕ) → read value used ≡ cell_there → eqb (next_cell (drop at line) kind k year sep).answer 0 ≡ true
   item_there value used told = sym (ap (λ (f : Found). eqb f.answer 0) told)
 
-  module _ (values : List ℕ) (p : Parsed) (r : Result Entry Wrong) where
-    tells_wrong : (w : Wrong) → r ≡ Err w → wrong_in w ≡ cell_there → p ≡ ended_by cell_there.answer cell_there.used kind k values → parsed_in p.at r ≡ p
+  module _ (values : List ℕ) (p : Parsed) (r : Result Told Wrong) where
+    tells_wrong : (w : Wrong) → r ≡ Err w → wrong_in w ≡ cell_there → p ≡ ended_by cell_there.answer cell_there.used kind k values → parsed_in r ≡ p
     tells_wrong w is told e =
         let other = ended_other (expected_number w.expected) w.at kind k values (wrong_no_end w) in
-        ap (parsed_in p.at) is ∙ sym (e ∙ sym (ap (λ (f : Found). ended_by f.answer f.used kind k values) told) ∙ other)
+        ap parsed_in is ∙ sym (e ∙ sym (ap (λ (f : Found). ended_by f.answer f.used kind k values) told) ∙ other)
 
-    tells_end : (end : ℕ) → said_at 255 end ≡ cell_there → parsed_in end r ≡ ended_by 255 end kind k values → p ≡ ended_by cell_there.answer cell_there.used kind k values → parsed_in p.at r ≡ p
+    tells_end : (end : ℕ) → said_at 255 end ≡ cell_there → parsed_in r ≡ ended_by 255 end kind k values → p ≡ ended_by cell_there.answer cell_there.used kind k values → parsed_in r ≡ p
     tells_end end told ends e = outcome_is p 255 end kind k values r (e ∙ sym (ap (λ (f : Found). ended_by f.answer f.used kind k values) told)) ends
 
     -- with turns left
     module _ (n : ℕ) (goes : p ≡ going_on (suc n) line at kind k year sep values) where
-      pub gather_wrong : (w : Wrong) → r ≡ Err w → wrong_in w ≡ cell_there → parsed_in p.at r ≡ p
+      pub gather_wrong : (w : Wrong) → r ≡ Err w → wrong_in w ≡ cell_there → parsed_in r ≡ p
       gather_wrong w is told = tells_wrong w is told (goes ∙ going_ends line at kind k year sep values (next_cell (drop at line) kind k year sep) refl n (wrong_there w told))
 
-      pub gather_end : (end : ℕ) → said_at 255 end ≡ cell_there → parsed_in end r ≡ ended_by 255 end kind k values → parsed_in p.at r ≡ p
+      pub gather_end : (end : ℕ) → said_at 255 end ≡ cell_there → parsed_in r ≡ ended_by 255 end kind k values → parsed_in r ≡ p
       gather_end end told ends = tells_end end told ends (goes ∙ going_ends line at kind k year sep values (next_cell (drop at line) kind k year sep) refl n (end_there end told))
 
     -- with none
     module _ (goes : p ≡ going_on zero line at kind k year sep values) where
-      pub last_wrong : (w : Wrong) → r ≡ Err w → wrong_in w ≡ cell_there → parsed_in p.at r ≡ p
+      pub last_wrong : (w : Wrong) → r ≡ Err w → wrong_in w ≡ cell_there → parsed_in r ≡ p
       last_wrong w is told = tells_wrong w is told (goes ∙ going_last line at kind k year sep values (next_cell (drop at line) kind k year sep) refl)
 
-      pub last_end : (end : ℕ) → said_at 255 end ≡ cell_there → parsed_in end r ≡ ended_by 255 end kind k values → parsed_in p.at r ≡ p
+      pub last_end : (end : ℕ) → said_at 255 end ≡ cell_there → parsed_in r ≡ ended_by 255 end kind k values → parsed_in r ≡ p
       last_end end told ends = tells_end end told ends (goes ∙ going_last line at kind k year sep values (next_cell (drop at line) kind k year sep) refl)
 
   pub gather_item :

@@ -9,6 +9,7 @@ use Rattle.text_items.proofs.SortLaws.{same_sort}
 use Rattle.text_scan.specs.declared.Wrong.{Wrong}
 use Rattle.text_scan.proofs.OutcomeLaws.{same_wrong, wrong_answer}
 use Rattle.text_parse.specs.Records.{Parsed}
+use Rattle.text_parse.specs.declared.Parsed.{Parsed as Told}
 use Rattle.text_parse.specs.Outcomes.{parsed_in}
 
 pub same_entry : (d e : Entry) → entry_in d ≡ entry_in e → d ≡ e
@@ -17,12 +18,14 @@ same_entry d e same =
     λ i. record { kind = kind i; count = (same i).count; values = (same i).values }
 
 -- what is wrong is answered by a number other than 0
-wrong_only : (at : ℕ) (w : Wrong) → eqb (parsed_in at (Err w)).answer 0 ≡ false
-wrong_only at w = wrong_answer w
+wrong_only : (w : Wrong) → eqb (parsed_in (Err w)).answer 0 ≡ false
+wrong_only w = wrong_answer w
 
-pub same_parsed : (at : ℕ) (x y : Result Entry Wrong) → parsed_in at x ≡ parsed_in at y → x ≡ y
-same_parsed at (Ok d) (Ok e) same = ap (λ (n : Entry). Ok n) (same_entry d e (ap (λ (p : Parsed). p.entry) same))
-same_parsed at (Ok d) (Err w) same = absurd (true≢false (ap (λ (p : Parsed). eqb p.answer 0) same ∙ wrong_only at w))
-same_parsed at (Err v) (Ok e) same = absurd (true≢false (sym (ap (λ (p : Parsed). eqb p.answer 0) same) ∙ wrong_only at v))
-same_parsed at (Err v) (Err w) same =
+pub same_parsed : (x y : Result Told Wrong) → parsed_in x ≡ parsed_in y → x ≡ y
+same_parsed (Ok d) (Ok e) same =
+    let entry = same_entry d.entry e.entry (ap (λ (p : Parsed). p.entry) same) in
+    λ i. Ok (record { entry = entry i; at = (same i).at })
+same_parsed (Ok d) (Err w) same = absurd (true≢false (ap (λ (p : Parsed). eqb p.answer 0) same ∙ wrong_only w))
+same_parsed (Err v) (Ok e) same = absurd (true≢false (sym (ap (λ (p : Parsed). eqb p.answer 0) same) ∙ wrong_only v))
+same_parsed (Err v) (Err w) same =
     ap (λ (u : Wrong). Err u) (same_wrong v w (λ i. record { answer = (same i).answer; value = 0; used = (same i).at }))

@@ -1,6 +1,5 @@
 -- What the functions answer, in the numbers of the definitions.
 use Rattle.std.specs.Prelude.{ℕ, ◌+◌, Option, Some, None, Result, Ok, Err}
-use Rattle.text_items.specs.declared.Entry.{Entry}
 use Rattle.text_items.specs.Shape.{no_entry}
 use Rattle.text_items.specs.Sorts.{sort_number, entry_in}
 use Rattle.text_scan.specs.Found.{Found}
@@ -9,6 +8,7 @@ use Rattle.text_scan.specs.Scan.{said_at}
 use Rattle.text_scan.specs.declared.Wrong.{Wrong}
 use Rattle.text_parse.specs.Records.{Word, Parsed}
 use Rattle.text_parse.specs.declared.Word.{Word as Named}
+use Rattle.text_parse.specs.declared.Parsed.{Parsed as Told}
 use Rattle.text_parse.specs.declared.Next.{Next}
 use Rattle.text_parse.specs.declared.Next.TheVariants.{Item, End}
 
@@ -27,7 +27,7 @@ next_in (Err w) = wrong_in w
 abbrev pub placed : ℕ → Found → Found
 placed at f = record { answer = f.answer; value = f.value; used = at + f.used }
 
--- an entry of a line that ends at a place, or what is wrong
-abbrev pub parsed_in : ℕ → Result Entry Wrong → Parsed
-parsed_in at (Ok e) = record { answer = 0; at = at; entry = entry_in e }
-parsed_in at (Err w) = record { answer = expected_number w.expected; at = w.at; entry = no_entry }
+-- an entry and where it ends, or what is wrong
+abbrev pub parsed_in : Result Told Wrong → Parsed
+parsed_in (Ok p) = record { answer = 0; at = p.at; entry = entry_in p.entry }
+parsed_in (Err w) = record { answer = expected_number w.expected; at = w.at; entry = no_entry }

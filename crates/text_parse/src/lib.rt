@@ -10,6 +10,13 @@ ghost use Rattle.text_scan.specs.Outcomes.{gap_in};
 use text_items::{Entry, Item, Sort};
 use text_scan::{Expected, Found, Wrong};
 
+// What a line says, and where it ends: at its comment, or past its last byte.
+#[derive(Clone, Copy)]
+pub struct Parsed {
+    pub entry: Entry,
+    pub at: usize,
+}
+
 // A sort of line, and how long the word is that names it.
 #[derive(Clone, Copy)]
 struct Word {
@@ -24,7 +31,8 @@ enum Next {
     End(usize),
 }
 
-// How the items of a line are read: by its sort, by the year of the sheet before it, 0 where there is none, and by its separator, 0 where it is no line of cells.
+// How the items of a line are read: by its sort, by the year of the sheet before it, 0 where there is none, and by its separator, 0 where it is no line of cells
+// (both as `parse` and `text_scan::separator_of` tell them).
 #[derive(Clone, Copy)]
 struct Items {
     kind: Sort,
@@ -144,8 +152,8 @@ impl Items {
     }
 
     // The entry of a line whose items are read from a place on.
-    fn gather(self, line: &[u8], start: usize) -> Result<Entry, Wrong>
-        ensures { parsed_in (gathered line.now start (sort_number self.kind) self.year self.sep).at result ≡ gathered line.now start (sort_number self.kind) self.year self.sep }
+    fn gather(self, line: &[u8], start: usize) -> Result<Parsed, Wrong>
+        ensures { parsed_in result ≡ gathered line.now start (sort_number self.kind) self.year self.sep }
     {
         let mut values = [0u32; 261];
         let mut at = start;
@@ -184,31 +192,37 @@ impl Items {
 }
 
 // The entry of a line that ends at a place behind so many items, where it is whole with them.
-fn ended(end: usize, kind: Sort, count: usize, values: [u32; 261]) -> Result<Entry, Wrong>
-    ensures { parsed_in end result ≡ ended_by 255 end (sort_number kind) count values }
+fn ended(end: usize, kind: Sort, count: usize, values: [u32; 261]) -> Result<Parsed, Wrong>
+    ensures { parsed_in result ≡ ended_by 255 end (sort_number kind) count values }
 {
     if !text_items::is_whole(kind, count) {
         return Err(Expected::More.at(end));
     }
-    Ok(Entry {
-        kind,
-        count,
-        values,
+    Ok(Parsed {
+        entry: Entry {
+            kind,
+            count,
+            values,
+        },
+        at: end,
     })
 }
 
-// A line, without its newline: its entry, which is blank where the line has nothing but gaps and a comment; or what was expected, and at which byte of the line,
+// A line, without its newline: its entry, which is blank where the line has nothing but gaps and a comment, and where it ends; or what was expected, and at which byte of the line,
 // from 0. The year is that of the sheet before it, 0 where there is none.
-pub fn parse(line: &[u8], year: u16) -> Result<Entry, Wrong>
-    ensures { parsed_in (parsed_of line.now year).at result ≡ parsed_of line.now year }
+pub fn parse(line: &[u8], year: u16) -> Result<Parsed, Wrong>
+    ensures { parsed_in result ≡ parsed_of line.now year }
 {
     let skipped = text_scan::gaps_in(line);
     let rest = wire::part(line, skipped, line.len());
     if text_scan::ends_here(rest) {
-        return Ok(Entry {
-            kind: Sort::Blank,
-            count: 0,
-            values: [0; 261],
+        return Ok(Parsed {
+            entry: Entry {
+                kind: Sort::Blank,
+                count: 0,
+                values: [0; 261],
+            },
+            at: skipped,
         });
     }
     let sep = text_scan::separator_of(line);

@@ -1,3 +1,4 @@
+pub mod AnyItem
 pub mod ScanLaws
 pub mod OutcomeLaws
 pub mod OneOutcome

@@ -4,10 +4,9 @@ use mathlib.Core.Path.{◌≡◌, refl, sym, ap, ◌∙◌}
 use mathlib.Core.Bool.{Bool, true, false, ◌&&◌, not, cond, false≢true, true≢false}
 use mathlib.Core.List.{List, [], ◌∷◌}
 use lib.Dec.{eqb, ltb, leb}
-use lib.ListN.{length, take, drop, get_or, length-drop, drop_of_length-le, get_or-eq_default}
+use lib.ListN.{length, take, drop, get_or, length-drop, get_or-eq_default}
 use lib.Seq.{take_all, drop-cons}
 use native.Mathlib.Omega.{arith}
-use native.Mathlib.Numerals.{add-one}
 use borrow.Author.Tests.{ltb-true, ltb-false, lt-ltb, le-ltb, not-false}
 use Rattle.base.proofs.TestLaws.{Tested, holds, fails, test, and_left, and_right}
 use Rattle.std.specs.Prelude.{Option, Some, None, unwrap_or}
@@ -17,7 +16,7 @@ use Rattle.wire.specs.Numbers.{byte_at}
 use Rattle.wire.specs.Book.{part_of}
 use Rattle.text_scan.specs.Found.{Found}
 use Rattle.text_scan.specs.Outcomes.{place_within}
-use Rattle.text_scan.specs.Scan.{is_gap, gaps_in, ends_here, said_at, separates, separator_of, first_of, other_at, separator_place, second_of, gap_said, is_digit, grown, digits_from, digits_of, number_found, two_stand, date_stands, date_minute, date_found, time_found, hex_value, hex_found, item_found, read, expected}
+use Rattle.text_scan.specs.Scan.{is_gap, gaps_in, said_at, separator_of, first_of, other_at, separator_place, second_of, gap_said, is_digit, grown, digits_from, digits_of, number_found, two_stand, date_stands, date_minute, date_found, time_found, hex_value, hex_found, item_found, read, expected}
 
 -- the part from an offset to the end is what is left there
 pub part_is_rest : (s : List ℕ) (a : ℕ) → part_of s a (length s) ≡ drop a s
@@ -26,27 +25,6 @@ part_is_rest s a = take_all (length s - a) (drop a s) (omega (arith, length-drop
 -- and the part from the beginning is what stands in front
 pub part_is_front : (s : List ℕ) (a : ℕ) → part_of s 0 a ≡ take a s
 part_is_front s a = let e : a - 0 ≡ a = omega arith in ap (λ (n : ℕ). take n s) e
-
--- a line's first byte
-pub empty_ends : (s : List ℕ) → length s ≡ 0 → true ≡ ends_here s
-empty_ends [] h = refl
-empty_ends (b ∷ s) h = absurd (omega arith)
-
--- a line that is not empty ends here exactly where its first byte is #
-pub first_ends : (s : List ℕ) → (length s ≡ 0 → ⊥) → eqb (get_or s 0 0) 35 ≡ ends_here s
-first_ends [] h = absurd (h refl)
-first_ends (b ∷ s) h = refl
-
-module _ (s : List ℕ) (i : ℕ) where
-  -- a digit more, the end of the digits, and the end of the line
-  pub digit_goes : (value : ℕ) → i < length s → is_digit (get_or s i 0) ≡ true → digits_from value i (drop i s) ≡ digits_from (grown value (get_or s i 0)) (i + 1) (drop (i + 1) s)
-  digit_goes value h e = ap (digits_from value i) (drop-cons s i 0 h) ∙ rw (e, add-one) refl
-
-  pub digit_stops : (value : ℕ) → i < length s → is_digit (get_or s i 0) ≡ false → digits_from value i (drop i s) ≡ record { value = value; used = i }
-  digit_stops value h e = rw (drop-cons s i 0, e) refl
-
-  pub digit_ends : (value : ℕ) → length s ≤ i → digits_from value i (drop i s) ≡ record { value = value; used = i }
-  digit_ends value h = rw (drop_of_length-le s h) refl
 
 -- the library's place of the first byte of a sort, or the length, is that of the definition
 pub first_is : (p : ℕ → Bool) (s : List ℕ) → position_or_len p s ≡ first_of p s
@@ -101,19 +79,10 @@ place_none n s e = go (test (ltb n (length s)))
     go (holds h) = let there : place_within n s ≡ Some n = rw h refl in absurd (none-some n (sym e ∙ there))
     go (fails h) = h
 
--- a line's separator: at a comment, at one of the three, past any other byte, and at the line's end
+-- a line that begins with a comment has no separator
 module _ (s : List ℕ) (i : ℕ) where
   pub comment_first : i < length s → get_or s i 0 ≡ 35 → separator_of (drop i s) ≡ 0
   comment_first h e = rw (drop-cons s i 0, e)
-
-  pub separator_here : i < length s → eqb (get_or s i 0) 35 ≡ false → separates (get_or s i 0) ≡ true → separator_of (drop i s) ≡ get_or s i 0
-  separator_here h n e = rw (drop-cons s i 0, n, e)
-
-  pub separator_later : i < length s → eqb (get_or s i 0) 35 ≡ false → separates (get_or s i 0) ≡ false → separator_of (drop i s) ≡ separator_of (drop (i + 1) s)
-  separator_later h n e = rw (add-one, drop-cons s i 0, n, e)
-
-  pub separator_none : length s ≤ i → separator_of (drop i s) ≡ 0
-  separator_none h = rw (drop_of_length-le s h)
 
 -- a gap of a line of cells, by its tests
 module _ (gap : List ℕ) (sep : ℕ) (due : Bool) where

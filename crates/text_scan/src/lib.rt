@@ -96,7 +96,7 @@ fn separates(b: u8) -> bool
     matches!(b, b'\t' | b',' | b';')
 }
 
-// The separator of a line of cells: the first before its comment. 0 where there is none.
+// The separator of a line of cells: the first before its comment. 0 where there is none, and not an Option: 0 differs from every separator, as `other_at` asks.
 pub fn separator_of(line: &[u8]) -> u8
     ensures { result ≡ separator_of line.now }
 {

@@ -1,10 +1,8 @@
 -- One bit of a byte: the table of the eight bits, and what setting a bit does to this bit and to the others. Assumes nothing.
 use Prim.Native.Nat.{ℕ, zero, suc, ◌+◌, ◌*◌, ◌-◌, ◌/◌, ◌%◌, ◌^◌, ◌<◌}
 use mathlib.Core.Path.{◌≡◌, refl, ap, ◌∙◌, sym}
-use mathlib.Core.List.{[], ◌∷◌}
 use mathlib.Core.Bool.{Bool, true, false, cond}
 use mathlib.Core.Logic.{◌≢◌}
-use lib.ListN.{get_or}
 use lib.Dec.{leb, eqb}
 use lib.Pow.{pow_pos, pow-add}
 use native.Mathlib.Omega.{arith}
@@ -24,9 +22,9 @@ each_place P a b c d e f g h (suc (suc (suc (suc (suc (suc zero)))))) l = g
 each_place P a b c d e f g h (suc (suc (suc (suc (suc (suc (suc zero))))))) l = h
 each_place P a b c d e f g h (suc (suc (suc (suc (suc (suc (suc (suc n)))))))) l = absurd (omega arith)
 
--- the table of eight has 2^k at k
-pub table_of_powers : (k : ℕ) → k < 8 → get_or (1 ∷ 2 ∷ 4 ∷ 8 ∷ 16 ∷ 32 ∷ 64 ∷ 128 ∷ []) k 0 ≡ 2 ^ k
-table_of_powers = each_place (λ k. get_or (1 ∷ 2 ∷ 4 ∷ 8 ∷ 16 ∷ 32 ∷ 64 ∷ 128 ∷ []) k 0 ≡ 2 ^ k) refl refl refl refl refl refl refl refl
+-- 1 shifted by k within a byte is 2^k
+pub one_shifted : (k : ℕ) → k < 8 → 1 * 2 ^ k % 256 ≡ 2 ^ k
+one_shifted = each_place (λ k. 1 * 2 ^ k % 256 ≡ 2 ^ k) refl refl refl refl refl refl refl refl
 
 -- a bit that is not set can be added, and the sum is still a byte
 abbrev Room : ℕ → Type 0

@@ -1,18 +1,8 @@
 // The map of used event numbers: 8,192 lent bytes, of which number v is bit v mod 8 of byte v / 8.
 #![tactic(auto)]
 
-ghost use Rattle.std.specs.Prelude.{◌≡◌, ◌^◌, ◌<◌};
+ghost use Rattle.std.specs.Prelude.{◌≡◌};
 ghost use Rattle.used_numbers.specs.Marks.{marked, marked_with};
-
-const BITS: [u8; 8] = [1, 2, 4, 8, 16, 32, 64, 128];
-
-// The byte that has bit k alone.
-fn bit(k: usize) -> u8
-    requires { k < 8 }
-    ensures { result ≡ 2 ^ k }
-{
-    BITS[k]
-}
 
 // Whether a number is marked. Past the map's end none is.
 pub fn is_marked(map: &[u8], number: u16) -> bool
@@ -34,10 +24,8 @@ pub fn mark(map: &mut [u8], number: u16)
     if map.len() <= at {
         return;
     }
-    let byte = map[at];
-    let b = bit((number % 8) as usize);
     if is_marked(&map[..], number) {
         return;
     }
-    map[at] = byte + b;
+    map[at] += 1 << (number % 8);
 }

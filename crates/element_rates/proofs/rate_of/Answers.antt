@@ -4,16 +4,12 @@ use Rattle.std.specs.Prelude.{Ok}
 use mathlib.Core.Path.{◌≡◌, sym, ap, ◌∙◌}
 use mathlib.Core.Bool.{true, ◌||◌}
 use lib.Dec.{eqb}
-use Prim.Native.Nat.{◌*◌, ◌<◌, ◌≤◌}
-use native.Mathlib.Nat.{mul-le-mul}
+use Prim.Native.Nat.{◌*◌, ◌<◌}
 use native.Mathlib.Omega.{arith}
-use borrow.Author.Rules.{rules}
 use Rattle.ratio.specs.Lowest.{lowest_of}
 use Rattle.element_codes.specs.Elements.{element_listed}
 use Rattle.element_codes.proofs.CodeLaws.{listed_row}
-use Rattle.element_row.specs.Row.{most_outages}
 use Rattle.element_table.specs.Table.{row_or, sound_table}
-use Rattle.element_table.proofs.BoundLaws.{sound_period, sound_row}
 use Rattle.element_rates.specs.Rates.{row_at, weight_of}
 use Rattle.element_rates.proofs.FigureLaws.{unsound_refused, unknown_refused, rate_by0, rate_refused, rate_answered}
 use Rattle.element_rates.proofs.rate_of.Goals as goal
@@ -52,23 +48,6 @@ returns-then-row c =
     sym
     (rate_refused a.table a.code sound known
     (sym tested ∙ c.if-row.true))
-
-pub overflow_mul-weight : goal.overflow_mul-weight
-overflow_mul-weight c =
-    let sound : sound_table c.args.table ≡ true = sym c.sound.ensures ∙ c.if-not-sound.false in
-    let t = c.args.table in
-    let few = (sound_row t sound c.row_of.result).outages in
-    let most : c.weight.result * (row_or t.rows c.row_of.result).outages ≤ 1000 * most_outages = mul-le-mul c.weight.ensures.1 few in
-    omega arith
-
-pub overflow_mul-row : goal.overflow_mul-row
-overflow_mul-row c =
-    let sound : sound_table c.args.table ≡ true = sym c.sound.ensures ∙ c.if-not-sound.false in
-    let t = c.args.table in
-    let some : (row_or t.rows c.row_of.result).amount ≤ 4294967295 = search rules in
-    let years = (sound_period t sound).1 in
-    let most : (row_or t.rows c.row_of.result).amount * t.period ≤ 4294967295 * 50 = mul-le-mul some years in
-    omega arith
 
 pub returns : goal.returns
 returns c =

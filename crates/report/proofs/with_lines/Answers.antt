@@ -21,7 +21,7 @@ loop-level-init c = refl
 pub loop-level-preserved : goal.loop-level-preserved
 loop-level-preserved c =
     let set = get_or (All ∷ Std ∷ []) c.loop-set.set-index All in
-    one_more (λ (level : Level). line_text c.args.ledger level set) c.loop-set.lines c.loop-level.lines c.with_line-lines.result each_level
+    one_more (λ (level : Level). line_text c.args.ledger level set) c.loop-set.lines c.loop-level.lines c.with_line-lines.result _
     c.loop-level.level-index NN (omega arith) c.loop-level.invariant c.with_line-lines.ensures
 
 pub loop-set-preserved : goal.loop-set-preserved

@@ -25,7 +25,7 @@ returns-then-ends_here c =
     let rest : c.part-rest.result.now ≡ drop (gaps_in c.args.line.now) c.args.line.now = c.part-rest.ensures ∙ part_is_rest s c.gaps_in-skipped.result ∙ ap (λ (n : ℕ). drop n s) c.gaps_in-skipped.ensures in
     let ended : ends_here (drop (gaps_in c.args.line.now) c.args.line.now) ≡ true = sym (ap ends_here rest) ∙ sym c.ends_here.ensures ∙ c.if-ends_here.true in
     let blank = parse_blank s a.year ended in
-    (λ i. refused_at 0 (blank i).at) ∙ sym blank
+    ap (refused_at 0) c.gaps_in-skipped.ensures ∙ sym blank
 
 pub returns-in-Some : goal.returns-in-Some
 returns-in-Some c =
@@ -81,4 +81,4 @@ returns c =
     let g = gaps.ensures in
     let p = c.separator_of-sep.ensures in
     let is = parse_gathers s a.year goes same there ∙ sym (λ i. gathered s (g i + (word i).used) (word i).kind a.year (p i)) in
-    ap (λ (q : Parsed). parsed_in q.at c.gather.result) is ∙ c.gather.ensures ∙ sym is
+    c.gather.ensures ∙ sym is

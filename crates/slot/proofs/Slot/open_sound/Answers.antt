@@ -33,34 +33,34 @@ near s e =
 
 pub returns-then-not-listed : goal.returns-then-not-listed
 returns-then-not-listed c =
-    let s = c.args.self in
+    let s = c.args.self.now in
     refuted s (head_listed s.head) (sym c.listed.ensures ∙ c.if-not-listed.true) (open_listed s)
 
 pub returns-then-self : goal.returns-then-self
 returns-then-self c =
-    let s = c.args.self in
+    let s = c.args.self.now in
     not_open_lem s (λ o. true≢false (sym c.if-self.true ∙ open-near s o))
 
 pub overflow_sub-minutes : goal.overflow_sub-minutes
 overflow_sub-minutes c =
-    let s = c.args.self in
+    let s = c.args.self.now in
     (near s c.if-self.false).1
 
 pub returns-then-not-level_within : goal.returns-then-not-level_within
 returns-then-not-level_within c =
-    let s = c.args.self in
+    let s = c.args.self.now in
     let level = c.loop-level.level in
     refuted s (within s level) (sym c.level_within.ensures ∙ c.if-not-level_within.true) (λ o. open_level s o level (omega arith))
 
 pub returns-then-figures_above : goal.returns-then-figures_above
 returns-then-figures_above c =
-    let s = c.args.self in
+    let s = c.args.self.now in
     let above = c.figures_above.ensures ∙ (λ i. figures_above (c.level_of.ensures i) s.figures) in
     not_open_lem s (λ o. true≢false (sym c.if-figures_above.true ∙ above ∙ open_none_above s o))
 
 pub returns : goal.returns
 returns c =
-    let s = c.args.self in
+    let s = c.args.self.now in
     let k = near s c.if-self.false in
     let above = c.figures_above.ensures ∙ (λ i. figures_above (c.level_of.ensures i) s.figures) in
     (λ i. ltb 0 s.steps || (eqb s.last s.head.t0 && c.no_customers.ensures i)) ∙

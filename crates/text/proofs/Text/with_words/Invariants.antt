@@ -1,11 +1,7 @@
-use Prim.Native.Nat.{◌-◌, ◌≤◌}
 use mathlib.Core.Path.{◌≡◌}
-use lib.ListN.{length, drop}
+use lib.ListN.{drop}
 use Rattle.text.specs.Text.{pushed_all}
 use Rattle.text.proofs.Text.with_words.Given as goal
 
-abbrev pub invariant-loop-i : goal.invariant-loop-i
-invariant-loop-i l = (l.i ≤ length l.words) × (pushed_all l.initial.t l.words ≡ pushed_all l.t (drop l.i l.words))
-
-abbrev pub decreases-loop-i : goal.decreases-loop-i
-decreases-loop-i l = length l.words - l.i
+abbrev pub invariant-loop-b : goal.invariant-loop-b
+invariant-loop-b l = pushed_all l.initial.text l.words ≡ pushed_all l.text (drop l.b-index l.words)
