@@ -2,11 +2,8 @@
 use Rattle.std.specs.Prelude.{ℕ, ◌+◌, List, [], ◌∷◌, cond, eqb, ltb, get_or, set}
 use Rattle.codes.specs.Codes.{rows}
 use Rattle.annex.specs.Figures.{customers, half_minutes}
-use Rattle.fields.specs.declared.Sheet.{Sheet}
 use Rattle.ledger.specs.declared.Cell.{Cell}
 use Rattle.ledger.specs.declared.TypeRow.{TypeRow}
-use Rattle.ledger.specs.declared.Ledger.{Ledger}
-use Rattle.ledger.specs.Ledger.{empty_row}
 use Rattle.pack.specs.Pack.{packed_of}
 use Rattle.text_parse.specs.Entry.{parsed_of}
 
