@@ -1,7 +1,7 @@
 -- All the pieces that have come are one run of bytes, and the end of the inflow is what `element_file` answers to them: 2^40 turns of 65,536 bytes are fewer than
 -- 2^62, so that their refused records are counted. Into an unsound table nothing is read. Assumes nothing.
 use Prim.Native.Nat.{ℕ}
-use mathlib.Core.Path.{◌≡◌, refl, sym, ap, ◌∙◌, subst⁻¹}
+use mathlib.Core.Path.{◌≡◌, refl, sym, ap, ◌∙◌, subst, subst⁻¹}
 use mathlib.Core.Bool.{true, false}
 use mathlib.Core.List.{List, []}
 use native.Mathlib.Omega.{arith}
@@ -12,11 +12,13 @@ use Rattle.wire.specs.Cut.{joined}
 use Rattle.refusals.specs.declared.Refusal.{Refusal}
 use Rattle.refusals.proofs.NumberLaws.{no_refusal_0}
 use Rattle.element_table.specs.declared.Table.{Table}
-use Rattle.element_table.specs.Table.{sound_table, seen_as}
+use Rattle.element_table.specs.Table.{Filed, sound_table, seen_as}
+use Rattle.element_table.proofs.AnswerLaws.{file_begins}
 use Rattle.element_table.proofs.ExactlyThen.{file_exactly_0}
 use Rattle.element_file.specs.declared.Reading.{Reading as Read}
-use Rattle.element_file.specs.Yearly.{Reading, reading_in, starting, take_record, file_of}
+use Rattle.element_file.specs.Yearly.{Reading, FileState, reading_in, starting, take_record, file_of}
 use Rattle.element_file.proofs.RunLaws.{file_unread, file_through}
+use Rattle.records.specs.Pieces.{Held}
 use Rattle.refill.specs.Arrive.{most_turns, Arrived}
 use Rattle.element_pieces.specs.declared.Inflow.{Inflow}
 use Rattle.element_pieces.specs.Inflow.{fresh, Flowed, flowed_in, begun_of, reading_of, finished_in, finished_of}
@@ -35,11 +37,19 @@ module _ (t : Table) where
     table_sound : sound_table t ≡ true
     table_sound = (file_exactly_0 t).0 (ap (λ (x : Flowed). x.answer) (sym e))
 
-    -- where it is begun nothing has come yet
-    pub begun_arrived : (b : List ℕ) → Arrived take_record (starting (seen_as false t)) (reading_of begun) b 0
+    -- its mark is cleared, and nothing is refused
+    state_begun : (reading_of begun).state ≡ starting (seen_as false t)
+    state_begun = ap (λ (x : Flowed). (reading_of x.flow).state) e ∙ ap (λ (x : Filed). (reading_of (fresh x.table)).state) (file_begins t table_sound)
+
+    -- where it is begun nothing has come yet, and what then comes, comes from there
+    pub begun_arrived : (b : List ℕ) → Arrived take_record (reading_of begun).state (reading_of begun) b 0
     begun_arrived b =
-        subst⁻¹ (λ (x : Flowed). Arrived take_record (starting (seen_as false t)) (reading_of x.flow) b 0) e
-        (record { pieces = []; holds = (begun_holding t b table_sound).1; few = omega arith })
+        subst⁻¹ (λ (st : FileState). Arrived take_record st (reading_of begun) b 0) state_begun
+        (subst⁻¹ (λ (x : Flowed). Arrived take_record (starting (seen_as false t)) (reading_of x.flow) b 0) e
+        (record { pieces = []; holds = (begun_holding t b table_sound).1; few = omega arith }))
+
+    pub from_begun : (h : Held FileState) (b : List ℕ) (turns : ℕ) → Arrived take_record (reading_of begun).state h b turns → Arrived take_record (starting (seen_as false t)) h b turns
+    from_begun h b turns = subst (λ (st : FileState). Arrived take_record st h b turns) state_begun
 
     -- where pieces came in at most 2^40 turns, the end of the inflow is what some bytes come to, read as one file
     module _ (f : Inflow) (b : List ℕ) (a : Arrived take_record (starting (seen_as false t)) (reading_of f) b most_turns) where

@@ -18,15 +18,16 @@ use Rattle.ledger.specs.Ledger.{empty_ledger}
 use Rattle.ledger.specs.Sound.{sound_ledger}
 use Rattle.ledger.specs.Take.{unsound}
 use Rattle.book.specs.declared.Read.{Read as Outcome}
-use Rattle.book.specs.Book.{Read, starting, take_record, read_in, read_of}
+use Rattle.book.specs.Book.{Read, BookState, starting, take_record, read_in, read_of}
 use Rattle.book.proofs.RunLaws.{read_through}
+use Rattle.records.specs.Pieces.{Held}
 use Rattle.refill.specs.Arrive.{most_turns, Arrived}
 use Rattle.refill.proofs.ArriveLaws.{arrives_none}
 use Rattle.book_pieces.specs.declared.Feed.{Feed}
 use Rattle.book_pieces.specs.Feed.{begun_of, reading_of, finished_in, finished_of}
 use Rattle.book_pieces.proofs.LinkLaws.{finish_whole, count_fits}
 
-abbrev zeros : List ℕ
+abbrev pub zeros : List ℕ
 zeros = replicate map_size 0
 
 empty_sound : unsound empty_ledger zeros ≡ false
@@ -42,12 +43,15 @@ arrived_whole f m b a =
     let few = count_fits empty_ledger zeros a.pieces f m b a.holds (omega (arith, a.few)) in
     (joined a.pieces, finish_whole empty_ledger zeros a.pieces f m b a.holds few empty_sound)
 
--- a feed that begins from the empty ledger has had no turn
-pub begun_arrived :
-    (f : Feed) (l : Ledger) (b : List ℕ) → f ≡ begun_of l → l ≡ empty_ledger → Arrived take_record (starting empty_ledger zeros) (reading_of f zeros) b 0
-begun_arrived f l b begun empty =
-    subst (λ (x : Feed). Arrived take_record (starting empty_ledger zeros) (reading_of x zeros) b 0) (sym (begun ∙ ap begun_of empty))
-    (arrives_none take_record (starting empty_ledger zeros) b)
+-- a feed that begins from the empty ledger has had no turn, and what then comes, comes from there
+module _ (f : Feed) (l : Ledger) (begun : f ≡ begun_of l) (empty : l ≡ empty_ledger) where
+  pub begun_arrived : (b : List ℕ) → Arrived take_record (reading_of f zeros).state (reading_of f zeros) b 0
+  begun_arrived b =
+      subst (λ (x : Feed). Arrived take_record (reading_of x zeros).state (reading_of x zeros) b 0) (sym (begun ∙ ap begun_of empty))
+      (arrives_none take_record (starting empty_ledger zeros) b)
+
+  pub from_empty : (h : Held BookState) (b : List ℕ) (turns : ℕ) → Arrived take_record (reading_of f zeros).state h b turns → Arrived take_record (starting empty_ledger zeros) h b turns
+  from_empty h b turns = subst (λ (x : Feed). Arrived take_record (reading_of x zeros).state h b turns) (begun ∙ ap begun_of empty)
 
 -- and such a feed is never refused at the end
 module _ (f : Feed) (m b : List ℕ) (a : Arrived take_record (starting empty_ledger zeros) (reading_of f m) b most_turns) where

@@ -1,7 +1,5 @@
-use Rattle.std.proofs.Common.{false, []}
-use Rattle.element_table.specs.Table.{seen_as}
-use Rattle.element_file.specs.Yearly.{starting}
-use Rattle.element_input.proofs.WholeLaws.{unread, begun_arrived, is_read, read_is}
+use Rattle.std.proofs.Common.{[]}
+use Rattle.element_input.proofs.WholeLaws.{unread, begun_arrived, from_begun, is_read, read_is}
 use Rattle.element_input.proofs.read_file.Goals as goal
 
 -- nothing is read into an unsound table
@@ -14,21 +12,21 @@ unwrap-reading-requires g c =
     let t = c.args.table in
     let b = c.in-Ok in
     let all = c.take_all-all in
-    let came = all.ensures (starting (seen_as false t)) (begun_arrived t b.begun b.ensures _) in
-    is_read t b.begun b.ensures all.new.flow all.new.buffer came c.finish.result c.finish.ensures
+    let came = from_begun t b.begun b.ensures _ _ _ (all.ensures (record { flow = b.begun }) (begun_arrived t b.begun b.ensures _)) in
+    is_read t b.begun b.ensures all.new.pieces.flow all.new.buffer came c.finish.result c.finish.ensures
 
 pub returns-in-Ok-all : goal.returns-in-Ok-all
 returns-in-Ok-all g c =
     let t = c.args.table in
     let b = c.in-Ok in
     let all = c.take_all-all in
-    let came = all.ensures (starting (seen_as false t)) (begun_arrived t b.begun b.ensures _) in
-    read_is t b.begun b.ensures all.new.flow all.new.buffer came c.finish.result c.finish.ensures _ c.unwrap-reading.ensures
+    let came = from_begun t b.begun b.ensures _ _ _ (all.ensures (record { flow = b.begun }) (begun_arrived t b.begun b.ensures _)) in
+    read_is t b.begun b.ensures all.new.pieces.flow all.new.buffer came c.finish.result c.finish.ensures _ c.unwrap-reading.ensures
 
 pub returns-in-Err-all : goal.returns-in-Err-all
 returns-in-Err-all g c =
     let t = c.args.table in
     let b = c.in-Ok in
     let all = c.take_all-all in
-    let came = all.ensures (starting (seen_as false t)) (begun_arrived t b.begun b.ensures _) in
-    read_is t b.begun b.ensures all.new.flow all.new.buffer came c.finish.result c.finish.ensures _ c.unwrap-reading.ensures
+    let came = from_begun t b.begun b.ensures _ _ _ (all.ensures (record { flow = b.begun }) (begun_arrived t b.begun b.ensures _)) in
+    read_is t b.begun b.ensures all.new.pieces.flow all.new.buffer came c.finish.result c.finish.ensures _ c.unwrap-reading.ensures
