@@ -37,16 +37,19 @@ module _ (t : Table) where
     table_sound : sound_table t ≡ true
     table_sound = (file_exactly_0 t).0 (ap (λ (x : Flowed). x.answer) (sym e))
 
+    -- where it is begun nothing has come yet
+    pub begun_arrived : (b : List ℕ) → Arrived take_record (starting (seen_as false t)) (reading_of begun) b 0
+    begun_arrived b =
+        subst⁻¹ (λ (x : Flowed). Arrived take_record (starting (seen_as false t)) (reading_of x.flow) b 0) e
+        (record { pieces = []; holds = (begun_holding t b table_sound).1; few = omega arith })
+
     -- its mark is cleared, and nothing is refused
     state_begun : (reading_of begun).state ≡ starting (seen_as false t)
     state_begun = ap (λ (x : Flowed). (reading_of x.flow).state) e ∙ ap (λ (x : Filed). (reading_of (fresh x.table)).state) (file_begins t table_sound)
 
-    -- where it is begun nothing has come yet, and what then comes, comes from there
-    pub begun_arrived : (b : List ℕ) → Arrived take_record (reading_of begun).state (reading_of begun) b 0
-    begun_arrived b =
-        subst⁻¹ (λ (st : FileState). Arrived take_record st (reading_of begun) b 0) state_begun
-        (subst⁻¹ (λ (x : Flowed). Arrived take_record (starting (seen_as false t)) (reading_of x.flow) b 0) e
-        (record { pieces = []; holds = (begun_holding t b table_sound).1; few = omega arith }))
+    -- so it begins where it is itself, and what comes from there comes from the table
+    pub begun_here : (b : List ℕ) → Arrived take_record (reading_of begun).state (reading_of begun) b 0
+    begun_here b = subst⁻¹ (λ (st : FileState). Arrived take_record st (reading_of begun) b 0) state_begun (begun_arrived b)
 
     pub from_begun : (h : Held FileState) (b : List ℕ) (turns : ℕ) → Arrived take_record (reading_of begun).state h b turns → Arrived take_record (starting (seen_as false t)) h b turns
     from_begun h b turns = subst (λ (st : FileState). Arrived take_record st h b turns) state_begun

@@ -1,7 +1,7 @@
 -- All the pieces that have come are one run of bytes, and the end of the feed is what `book` answers to them: 2^40 turns of 65,536 bytes are fewer than 2^62,
 -- so that their refused records are counted. Assumes nothing.
 use Prim.Native.Nat.{ℕ}
-use mathlib.Core.Path.{◌≡◌, refl, sym, ap, ◌∙◌, subst}
+use mathlib.Core.Path.{◌≡◌, refl, sym, ap, ◌∙◌, subst, subst⁻¹}
 use mathlib.Core.Bool.{true, false, ◌||◌, not}
 use mathlib.Core.List.{List}
 use native.Mathlib.Omega.{arith}
@@ -43,15 +43,23 @@ arrived_whole f m b a =
     let few = count_fits empty_ledger zeros a.pieces f m b a.holds (omega (arith, a.few)) in
     (joined a.pieces, finish_whole empty_ledger zeros a.pieces f m b a.holds few empty_sound)
 
--- a feed that begins from the empty ledger has had no turn, and what then comes, comes from there
+-- a feed that begins from the empty ledger has had no turn
+pub begun_arrived :
+    (f : Feed) (l : Ledger) (b : List ℕ) → f ≡ begun_of l → l ≡ empty_ledger → Arrived take_record (starting empty_ledger zeros) (reading_of f zeros) b 0
+begun_arrived f l b begun empty =
+    subst (λ (x : Feed). Arrived take_record (starting empty_ledger zeros) (reading_of x zeros) b 0) (sym (begun ∙ ap begun_of empty))
+    (arrives_none take_record (starting empty_ledger zeros) b)
+
+-- so it begins where it is itself, and what comes from there comes from the empty ledger
 module _ (f : Feed) (l : Ledger) (begun : f ≡ begun_of l) (empty : l ≡ empty_ledger) where
-  pub begun_arrived : (b : List ℕ) → Arrived take_record (reading_of f zeros).state (reading_of f zeros) b 0
-  begun_arrived b =
-      subst (λ (x : Feed). Arrived take_record (reading_of x zeros).state (reading_of x zeros) b 0) (sym (begun ∙ ap begun_of empty))
-      (arrives_none take_record (starting empty_ledger zeros) b)
+  state_begun : (reading_of f zeros).state ≡ starting empty_ledger zeros
+  state_begun = ap (λ (x : Feed). (reading_of x zeros).state) (begun ∙ ap begun_of empty)
+
+  pub begun_here : (b : List ℕ) → Arrived take_record (reading_of f zeros).state (reading_of f zeros) b 0
+  begun_here b = subst⁻¹ (λ (st : BookState). Arrived take_record st (reading_of f zeros) b 0) state_begun (begun_arrived f l b begun empty)
 
   pub from_empty : (h : Held BookState) (b : List ℕ) (turns : ℕ) → Arrived take_record (reading_of f zeros).state h b turns → Arrived take_record (starting empty_ledger zeros) h b turns
-  from_empty h b turns = subst (λ (x : Feed). Arrived take_record (reading_of x zeros).state h b turns) (begun ∙ ap begun_of empty)
+  from_empty h b turns = subst (λ (st : BookState). Arrived take_record st h b turns) state_begun
 
 -- and such a feed is never refused at the end
 module _ (f : Feed) (m b : List ℕ) (a : Arrived take_record (starting empty_ledger zeros) (reading_of f m) b most_turns) where
