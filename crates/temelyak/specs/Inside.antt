@@ -1,4 +1,4 @@
--- Inner vocabulary: what the desk answers, as `c_words::settle` takes it.
+-- Inner vocabulary: what the desk answers, in the words of what taking a record answers.
 use Rattle.ledger.specs.Take.{Taken}
 use Rattle.desk_rules.specs.Plan.{Served}
 

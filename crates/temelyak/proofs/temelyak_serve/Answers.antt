@@ -1,4 +1,4 @@
--- The ledger handed on stands for the words; what `serve` and `settle_served` make of it is what the definition says. Assumes nothing.
+-- The ledger handed on stands for the words; what `serve` and `settle` make of it is what the definition says. Assumes nothing.
 use mathlib.Core.Path.{ap, ◌∙◌}
 use Rattle.ledger.specs.declared.Ledger.{Ledger}
 use Rattle.desk_rules.specs.Plan.{Served}
