@@ -24,6 +24,8 @@ struct File {
 impl Pieces for File {
     ghost holds = { λ x. x.flow.held };
 
+    ghost over = { λ x. x.flow.dead };
+
     ghost came = { λ begun x b turns. Arrived take_record (reading_of begun.flow).state (reading_of x.flow) b turns };
 
     fn held(&self) -> usize {

@@ -26,6 +26,8 @@ struct Lent {
 impl Pieces for Lent {
     ghost holds = { λ x. x.feed.held };
 
+    ghost over = { λ x. x.feed.dead };
+
     ghost came = { λ begun x b turns. Arrived take_record (reading_of begun.feed begun.map).state (reading_of x.feed x.map) b turns };
 
     fn held(&self) -> usize {

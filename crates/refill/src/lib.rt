@@ -1,7 +1,7 @@
 // Reading from a reader behind the bytes that are held at the front of a lent buffer.
 #![tactic(auto)]
 
-ghost use Rattle.std.specs.Prelude.{ℕ, ◌+◌, ◌≤◌, ◌≡◌, List, length, Ok, Some};
+ghost use Rattle.std.specs.Prelude.{ℕ, ◌+◌, ◌≤◌, ◌≡◌, Bool, List, length, Ok, Some};
 ghost use Rattle.refill.specs.Refill.{Filled, Refilled, filled_in};
 ghost use Rattle.refill.specs.Arrive.{room, most_turns};
 
@@ -49,6 +49,9 @@ pub trait Pieces {
     // how many bytes at the buffer's front it holds
     ghost holds: { Self → ℕ };
 
+    // whether no record can follow what it holds
+    ghost over: { Self → Bool };
+
     // begun so, what has come within so many turns is held, with a buffer
     ghost came: { Self → Self → List ℕ → ℕ → Type 0 };
 
@@ -56,7 +59,8 @@ pub trait Pieces {
         ensures { result ≡ holds self.now };
 
     // Whether no record can follow.
-    fn is_over(&self) -> bool;
+    fn is_over(&self) -> bool
+        ensures { result ≡ over self.now };
 
     // Takes the first `filled` bytes of the buffer; a piece that is refused leaves all as it was.
     fn take_piece(&mut self, buffer: &mut [u8], filled: usize) -> Result<(), Failed>
