@@ -13,7 +13,6 @@ use Rattle.wire.specs.Cut.{joined}
 use Rattle.used_numbers.specs.Marks.{map_size}
 use Rattle.refusals.specs.declared.Refusal.{Refusal}
 use Rattle.refusals.proofs.NumberLaws.{no_refusal_0}
-use Rattle.ledger.specs.declared.Ledger.{Ledger}
 use Rattle.ledger.specs.Ledger.{empty_ledger}
 use Rattle.ledger.specs.Sound.{sound_ledger}
 use Rattle.ledger.specs.Take.{unsound}
@@ -43,22 +42,20 @@ arrived_whole f m b a =
     let few = count_fits empty_ledger zeros a.pieces f m b a.holds (omega (arith, a.few)) in
     (joined a.pieces, finish_whole empty_ledger zeros a.pieces f m b a.holds few empty_sound)
 
--- a feed that begins from the empty ledger has had no turn
-pub begun_arrived :
-    (f : Feed) (l : Ledger) (b : List ℕ) → f ≡ begun_of l → l ≡ empty_ledger → Arrived take_record (starting empty_ledger zeros) (reading_of f zeros) b 0
-begun_arrived f l b begun empty =
-    subst (λ (x : Feed). Arrived take_record (starting empty_ledger zeros) (reading_of x zeros) b 0) (sym (begun ∙ ap begun_of empty))
-    (arrives_none take_record (starting empty_ledger zeros) b)
+module _ (f : Feed) (m : List ℕ) (begun : f ≡ begun_of empty_ledger) (unused : m ≡ zeros) where
+  -- a feed that begins from the empty ledger, with an all-zero map, has had no turn
+  pub begun_arrived : (b : List ℕ) → Arrived take_record (starting empty_ledger zeros) (reading_of f m) b 0
+  begun_arrived b =
+      coe 1 0 (i. Arrived take_record (starting empty_ledger zeros) (reading_of (begun i) (unused i)) b 0) (arrives_none take_record (starting empty_ledger zeros) b)
 
--- so it begins where it is itself, and what comes from there comes from the empty ledger
-module _ (f : Feed) (l : Ledger) (begun : f ≡ begun_of l) (empty : l ≡ empty_ledger) where
-  state_begun : (reading_of f zeros).state ≡ starting empty_ledger zeros
-  state_begun = ap (λ (x : Feed). (reading_of x zeros).state) (begun ∙ ap begun_of empty)
+  -- so it begins where it is itself, and what comes from there comes from the empty ledger
+  state_begun : (reading_of f m).state ≡ starting empty_ledger zeros
+  state_begun = λ i. (reading_of (begun i) (unused i)).state
 
-  pub begun_here : (b : List ℕ) → Arrived take_record (reading_of f zeros).state (reading_of f zeros) b 0
-  begun_here b = subst⁻¹ (λ (st : BookState). Arrived take_record st (reading_of f zeros) b 0) state_begun (begun_arrived f l b begun empty)
+  pub begun_here : (b : List ℕ) → Arrived take_record (reading_of f m).state (reading_of f m) b 0
+  begun_here b = subst⁻¹ (λ (st : BookState). Arrived take_record st (reading_of f m) b 0) state_begun (begun_arrived b)
 
-  pub from_empty : (h : Held BookState) (b : List ℕ) (turns : ℕ) → Arrived take_record (reading_of f zeros).state h b turns → Arrived take_record (starting empty_ledger zeros) h b turns
+  pub from_empty : (h : Held BookState) (b : List ℕ) (turns : ℕ) → Arrived take_record (reading_of f m).state h b turns → Arrived take_record (starting empty_ledger zeros) h b turns
   from_empty h b turns = subst (λ (st : BookState). Arrived take_record st h b turns) state_begun
 
 -- and such a feed is never refused at the end

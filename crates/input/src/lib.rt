@@ -7,7 +7,7 @@ ghost use Rattle.ledger.specs.Ledger.{empty_ledger};
 ghost use Rattle.book.specs.Book.{take_record, read_in, read_of};
 ghost use Rattle.refill.specs.Arrive.{Arrived};
 ghost use Rattle.refill.proofs.ArriveLaws.{arrives_nothing, arrives_within};
-ghost use Rattle.book_pieces.specs.Feed.{reading_of};
+ghost use Rattle.book_pieces.specs.Feed.{begun_of, reading_of};
 ghost use Rattle.input.specs.Input.{read_either};
 
 use book::Read;
@@ -21,6 +21,19 @@ use std::io;
 struct Lent {
     feed: Feed,
     map: [u8; 8192],
+}
+
+impl Lent {
+    // A book that is begun: nothing has come yet, nothing is refused, and no number is used.
+    fn begun() -> Lent
+        ensures { (result.feed ≡ begun_of empty_ledger) × (result.map ≡ replicate map_size 0) }
+    {
+        let feed = book_pieces::begin(Ledger::empty());
+        Lent {
+            feed,
+            map: [0u8; 8192],
+        }
+    }
 }
 
 impl Pieces for Lent {
@@ -65,11 +78,7 @@ pub fn read_book<R: io::Read>(reader: &mut R) -> Result<Read, Cut>
     ensures { (bytes : List ℕ) × (read_in empty_ledger (Ok (read_either result)) ≡ read_of empty_ledger (replicate map_size 0) bytes) }
 {
     let mut buffer = [0u8; 65536];
-    let feed = book_pieces::begin(Ledger::empty());
-    let mut lent = Lent {
-        feed,
-        map: [0u8; 8192],
-    };
+    let mut lent = Lent::begun();
     let all = refill::take_all(reader, &mut lent, &mut buffer);
     let read = book_pieces::finish(lent.feed).unwrap();
     match all {
