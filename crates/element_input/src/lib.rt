@@ -21,6 +21,15 @@ struct File {
     flow: Inflow,
 }
 
+impl File {
+    // A file that is begun: what has come is what the inflow holds.
+    fn begun(flow: Inflow) -> File
+        ensures { result.flow ≡ flow }
+    {
+        File { flow }
+    }
+}
+
 impl Pieces for File {
     ghost holds = { λ x. x.flow.held };
 
@@ -68,7 +77,7 @@ pub fn read_file<R: io::Read>(reader: &mut R, table: Table) -> Result<Reading, U
         Ok(begun) => begun,
         Err(refusal) => return Err(Unread::Refused(refusal)),
     };
-    let mut file = File { flow: begun };
+    let mut file = File::begun(begun);
     let mut buffer = [0u8; 65536];
     let all = refill::take_all(reader, &mut file, &mut buffer);
     let reading = element_pieces::finish(file.flow).unwrap();
