@@ -63,49 +63,62 @@ fn refused(refusal: Refusal) -> &'static str {
 
 // ---- the page
 
-// What is said waits in a buffer before it is written out, and some of it may be lost.
+// What is said waits in a buffer before it is written out, and some of it may be lost. The buffer is the page's own, so that each place that puts a byte
+// knows how long it is.
 #[derive(Drop)]
-struct Page<'r, 'o, P: Print> {
+struct Page<'r, P: Print> {
     rt: &'r P,
-    pen: Pen<'o>,
+    out: [u8; 65536],
+    at: usize,
     lost: bool,
 }
 
-impl<P: Print> Page<'_, '_, P> {
+impl<P: Print> Page<'_, P> {
     // Writes out the bytes that wait.
     fn write_out(&mut self) {
         let rt = self.rt;
-        let at = self.pen.at;
-        if rt.write_all(wire::part(&self.pen.out[..], 0, at)).is_err() {
+        let at = self.at;
+        if rt.write_all(wire::part(&self.out[..], 0, at)).is_err() {
             self.lost = true;
         }
-        self.pen.at = 0;
+        self.at = 0;
     }
 
     // Sees that there is room for a comment or a line.
     fn make_room(&mut self) {
-        if MOST_WAITING <= self.pen.at {
+        if MOST_WAITING <= self.at {
             self.write_out();
         }
     }
 
     fn say(&mut self, words: &str) {
         self.make_room();
-        self.pen.put_words(words.as_bytes());
+        let at = self.at;
+        let mut pen = Pen {
+            out: &mut self.out[..],
+            at,
+        };
+        pen.put_words(words.as_bytes());
+        self.at = pen.at;
     }
 
     // A line, with times in a year.
-    fn say_line(&mut self, entry: Entry, year: u16) {
+    fn say_line(&mut self, entry: &Entry, year: u16) {
         self.make_room();
-        let at = self.pen.at;
-        self.pen.at = text_write::write_line(&mut self.pen.out[..], at, entry, year);
-        self.pen.put(b'\n');
+        let at = self.at;
+        let end = text_write::write_line(&mut self.out[..], at, *entry, year);
+        let mut pen = Pen {
+            out: &mut self.out[..],
+            at: end,
+        };
+        pen.put(b'\n');
+        self.at = pen.at;
     }
 
     // Bytes, up to 32 in a line.
     fn say_bytes(&mut self, bytes: &[u8]) {
         for few in bytes.chunks(32) {
-            self.say_line(unpack::bytes_entry(few), 0);
+            self.say_line(&unpack::bytes_entry(few), 0);
         }
     }
 
@@ -114,7 +127,7 @@ impl<P: Print> Page<'_, '_, P> {
         if entry.kind == Sort::Blank {
             self.say_bytes(record);
         } else {
-            self.say_line(entry, year);
+            self.say_line(&entry, year);
         }
     }
 
@@ -147,14 +160,14 @@ impl<P: Print> Page<'_, '_, P> {
 
 // A book being read: its ledger and its map of used numbers, the year that times are told in, and the page.
 #[derive(Drop)]
-struct Book<'r, 'o, P: Print> {
+struct Book<'r, P: Print> {
     ledger: Ledger,
     map: [u8; ledger::MAP],
     year: u16,
-    page: Page<'r, 'o, P>,
+    page: Page<'r, P>,
 }
 
-impl<P: Print> Book<'_, '_, P> {
+impl<P: Print> Book<'_, P> {
     // One record: its answer, and its line.
     fn take_record(&mut self, record: &[u8]) {
         match self.ledger.take(&mut self.map, record) {
@@ -211,17 +224,14 @@ impl<P: Print> Book<'_, '_, P> {
 
 fn main(rt: HostRuntime) {
     let mut buffer = [0u8; 65536];
-    let mut out = [0u8; 65536];
     let mut book = Book {
         ledger: Ledger::empty(),
         map: [0; ledger::MAP],
         year: 0,
         page: Page {
             rt: &rt,
-            pen: Pen {
-                out: &mut out,
-                at: 0,
-            },
+            out: [0; 65536],
+            at: 0,
             lost: false,
         },
     };

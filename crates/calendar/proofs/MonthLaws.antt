@@ -204,10 +204,10 @@ module _ (year month m days : ℕ) (h : Summed year month m days) where
       }
 
   -- at the month asked for or past it, and past December, it is the days before that month
-  summed_here : month ≤ m → days ≡ days_before year month
+  pub summed_here : month ≤ m → days ≡ days_before year month
   summed_here k = omega (arith, h.left, up_to_here (months year) (m - 1) (month - (m - 1)) (omega arith))
 
-  summed_all : 12 < m → days ≡ days_before year month
+  pub summed_all : 12 < m → days ≡ days_before year month
   summed_all k = omega (arith, h.left, up_to_none (months year) (m - 1) (month - (m - 1)) (omega arith))
 
   pub summed_end : min month 13 ≤ m → days ≡ days_before year month

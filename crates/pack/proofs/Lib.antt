@@ -1,1 +1,2 @@
+pub mod SortLaws
 pub mod OneOutcome

@@ -2,7 +2,7 @@
 #![tactic(auto)]
 
 ghost use Rattle.std.specs.Prelude.{◌%◌, ◌≡◌, [], ◌∷◌};
-ghost use Rattle.pen.specs.Pen.{inked, hex_digit, hex_text};
+ghost use Rattle.pen.specs.Pen.{inked, spot, pushed_all, hex_digit, hex_text};
 ghost use Rattle.wire.specs.Numbers.{le2, le4};
 ghost use Rattle.text.specs.Text.{number_text, two_text};
 
@@ -35,13 +35,16 @@ impl Pen<'_> {
     }
 
     // A number in decimal digits, the most significant first. Not by a text: `zero_as_space` and `digit_skipped` are wrong programs of this body.
+    #[cycle(number)]
+    #[inline(always)]
     pub fn put_number(&mut self, n: u32)
         ensures { self.new ≡ inked self.old (number_text n) }
     {
         if n < 10 {
             return self.put(48 + n as u8);
         }
-        self.put_number(n / 10);
+        let at = self.at;
+        self.at = put_number_at(&mut self.out[..], at, n / 10);
         self.put(48 + (n % 10) as u8);
     }
 
@@ -76,6 +79,18 @@ impl Pen<'_> {
         self.put_le2(n);
         self.put_le2(n / 65536);
     }
+}
+
+// Writes a number into a buffer from a place on, and answers the place after it. A pen that is lent to a function which calls itself is read from memory for
+// each byte, and a place is not.
+#[cycle(number)]
+#[inline(never)]
+fn put_number_at(out: &mut [u8], at: usize, n: u32) -> usize
+    ensures { spot out.new result ≡ pushed_all (spot out.old at) (number_text n) }
+{
+    let mut pen = Pen { out, at };
+    pen.put_number(n);
+    pen.at
 }
 
 // The hexadecimal digit of a number below 16.

@@ -39,7 +39,7 @@ same_entry e f same =
 
 -- ---- numbers that name no sort: what is asked of the sort that they are taken for is what is asked of them
 
-by_sort :
+pub by_sort :
     (P : ℕ → ℕ → Type 0) → P 1 1 → P 2 2 → P 3 3 → P 4 4 →
     ((n : ℕ) → eqb n 1 ≡ false → eqb n 2 ≡ false → eqb n 3 ≡ false → eqb n 4 ≡ false → P 0 n) →
     (n : ℕ) → P (sort_number (sort_of n)) n

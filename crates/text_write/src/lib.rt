@@ -5,7 +5,7 @@ ghost use Rattle.std.specs.Prelude.{◌≡◌};
 ghost use Rattle.pen.specs.Pen.{inked, spot, pushed_all};
 ghost use Rattle.text_items.specs.Sorts.{sort_number, item_number, entry_in};
 ghost use Rattle.text_parse.specs.Entry.{word_text};
-ghost use Rattle.text_write.specs.Line.{date_text, time_text, item_text, gap_text, entry_items, line_of};
+ghost use Rattle.text_write.specs.Line.{date_text, time_text, item_text, gap_text, items_text, entry_items, line_of};
 
 use pen::Pen;
 use text_items::{Entry, Item, Sort};
@@ -74,14 +74,25 @@ fn put_word(pen: &mut Pen, kind: Sort)
     }
 }
 
-// The items of an entry, each with what parts it from those before it.
+// The items of a sort of line, each with what parts it from those before it. Inlined where the sort is known: so is then what stands in each place.
+#[inline(always)]
 #[tactic(auto, using(crate::proofs::LineLaws::item_on, crate::proofs::LineLaws::items_end))]
-fn put_items(pen: &mut Pen, entry: Entry, year: u16)
-    ensures { pen.new ≡ inked pen.old (entry_items (entry_in entry) year) }
+fn put_values(pen: &mut Pen, kind: Sort, values: &[u32], year: u16)
+    ensures { pen.new ≡ inked pen.old (items_text (sort_number kind) year 0 values.now) }
 {
-    for (k, &value) in entry.items().iter().enumerate() {
-        put_gap(pen, entry.kind, k);
-        put_item(pen, text_items::item_of(entry.kind, k), year, value);
+    for (k, &value) in values.iter().enumerate() {
+        put_gap(pen, kind, k);
+        put_item(pen, text_items::item_of(kind, k), year, value);
+    }
+}
+
+// The items of an entry.
+fn put_items(pen: &mut Pen, entry: &Entry, year: u16)
+    ensures { pen.new ≡ inked pen.old (entry_items (entry_in entry.now) year) }
+{
+    match entry.kind {
+        Sort::Hex => put_values(pen, Sort::Hex, entry.items(), year),
+        kind => put_values(pen, kind, entry.items(), year),
     }
 }
 
@@ -93,6 +104,6 @@ pub fn write_line(out: &mut [u8], at: usize, entry: Entry, year: u16) -> usize
 {
     let mut pen = Pen { out, at };
     put_word(&mut pen, entry.kind);
-    put_items(&mut pen, entry, year);
+    put_items(&mut pen, &entry, year);
     pen.at
 }

@@ -21,7 +21,7 @@ module _ (s : List ℕ) where
   stands l k m b e = ap (λ (i : ℕ). set (l ++ replicate (suc m) 0) i b) (sym e) ∙ set-append_seam l 0 (replicate m 0) b ∙ sym (append_snoc l b (replicate m 0))
 
   -- with the k-th byte (from 0) set at its place there are k + 1 bytes
-  one_more : (k : ℕ) → k < length s → k < 32 → set (begun k) k (get_or s k 0) ≡ begun (k + 1)
+  pub one_more : (k : ℕ) → k < length s → k < 32 → set (begun k) k (get_or s k 0) ≡ begun (k + 1)
   one_more k h few =
       let m : ℕ = 261 - (k + 1) in
       let zeros : 261 - k ≡ suc m = omega arith in

@@ -53,12 +53,13 @@ fn value_in(s: &[u8], kind: Sort, k: usize) -> u32
     }
 }
 
-// The entry of a record; a blank one where no line but bytes stands for it.
+// The entry of a record of a sort. Inlined where the sort is known: so is then where each number stands.
+#[inline(always)]
 #[tactic(auto, using(crate::proofs::UnpackLaws::filled_next, crate::proofs::UnpackLaws::count_few, crate::proofs::UnpackLaws::entry_of_lem))]
-pub fn unpack(s: &[u8]) -> Entry
+fn entry_as(s: &[u8], kind: Sort) -> Entry
+    requires { sort_number kind ≡ kind_in s.now }
     ensures { entry_in result ≡ unpacked_of s.now }
 {
-    let kind = kind_in(s);
     let count = count_in(s, kind);
     let mut values = [0u32; 261];
     for k in 0..count {
@@ -68,6 +69,17 @@ pub fn unpack(s: &[u8]) -> Entry
         kind,
         count,
         values,
+    }
+}
+
+// The entry of a record; a blank one where no line but bytes stands for it.
+pub fn unpack(s: &[u8]) -> Entry
+    ensures { entry_in result ≡ unpacked_of s.now }
+{
+    match kind_in(s) {
+        Sort::Simple => entry_as(s, Sort::Simple),
+        Sort::Stepped => entry_as(s, Sort::Stepped),
+        kind => entry_as(s, kind),
     }
 }
 
