@@ -4,7 +4,7 @@ use Prim.Native.Nat.{ℕ, ◌+◌, ◌-◌, ◌<◌, ◌≤◌}
 use native.Mathlib.Omega.{arith}
 use mathlib.Core.List.{List, ◌++◌}
 use lib.Dec.{leb}
-use lib.ListN.{length, take, drop, length-take, drop_of_length-le}
+use lib.ListN.{length, take, drop, length-take, drop_of_length-le, take-append-drop}
 use lib.Seq.{take-add, drop_at, length-take-le, paste}
 use borrow.Author.Tests.{le-ltb, lt-ltb, leb-true, leb-false}
 use Rattle.base.proofs.TestLaws.{Tested, holds, fails, test}
@@ -51,3 +51,11 @@ module _ (b : List ℕ) (start end : ℕ) where
 
   pub moved_none : end < start → b ≡ moved b start end
   moved_none h = none_either h (test (leb end (length b)))
+
+-- what begins at the front stays
+still_either : (b : List ℕ) (end : ℕ) → Tested (leb end (length b)) → b ≡ moved b 0 end
+still_either b end (holds e) = sym (take-append-drop (end - 0) b) ∙ moved_front b 0 end (leb-true end (length b) e)
+still_either b end (fails e) = moved_short b 0 end (leb-false end (length b) e)
+
+pub moved_still : (b : List ℕ) (end : ℕ) → b ≡ moved b 0 end
+moved_still b end = still_either b end (test (leb end (length b)))

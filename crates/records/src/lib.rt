@@ -18,11 +18,12 @@ pub fn is_dead(buffer: &[u8], held: usize) -> bool
     (2 <= held) & (wire::u16_at(buffer, 0) < 4)
 }
 
-// Moves the bytes between two places of a buffer to its front; those past them stay as lent.
+// Moves the bytes between two places of a buffer to its front; those past them stay as lent. What begins at the front is there, and is not copied onto itself:
+// a long record that comes in many pieces is held at each of them.
 pub fn move_to_front(buffer: &mut [u8], start: usize, end: usize)
     ensures { buffer.new ≡ moved buffer.old start end }
 {
-    if start <= end && end <= buffer.len() {
+    if 0 < start && start <= end && end <= buffer.len() {
         buffer.copy_within(start..end, 0);
     }
 }
