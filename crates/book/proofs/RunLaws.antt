@@ -90,7 +90,7 @@ module _ (l₀ : Ledger) (m₀ book : List ℕ) where
   module _ (l : Ledger) (m : List ℕ) (r at : ℕ) (g : Going l₀ m₀ book l m r at) where
     -- the verdict on the record that stands next is added, and its number marked
     module _ {start end : ℕ} (is : place_at book at ≡ Record start end) where
-      going_on_lem :
+      pub going_on_lem :
           (v : Verdict) →
           v ≡ verdict_of (part_of book start end) l.sheet m l.events →
           Going l₀ m₀ book (added l v) (marked_with m v.number) (r + one_if_refused v.answer) end

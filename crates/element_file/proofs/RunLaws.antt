@@ -54,7 +54,7 @@ module _ (t₀ : Table) (bytes : List ℕ) where
   module _ (t : Table) (r at : ℕ) (g : Going t r at) where
     -- the record that stands next is taken, and what it came to is filed
     module _ {start end : ℕ} (is : place_at bytes at ≡ Record start end) where
-      going_on_lem : (filed : Filed) → filed ≡ taken_of t (part_of bytes start end) → Going filed.table (r + one_if_refused filed.answer) end
+      pub going_on_lem : (filed : Filed) → filed ≡ taken_of t (part_of bytes start end) → Going filed.table (r + one_if_refused filed.answer) end
       unfolding take_record
       going_on_lem filed same =
           run.going_on_lem take_record refused_in (starting t₀) bytes _ at g is _
