@@ -1,13 +1,15 @@
 // What the drivers of run cases share: printing, the numbers and the sort of a line, and what a line stands for.
 #![tactic(auto)]
 
-ghost use Rattle.std.specs.Prelude.{◌≡◌, ◌↔◌, ◌-◌, ◌%◌, ◌<◌, ◌≤◌, ◌^◌, length, get_or, IsSome, IfSome};
+ghost use Rattle.std.specs.Prelude.{◌≡◌, ◌↔◌, ◌-◌, ◌%◌, ◌<◌, ◌≤◌, ◌^◌, ◌==◌, length, get_or, position, IsSome, IfSome};
+ghost use Rattle.std.specs.List.{after_first};
 ghost use Rattle.refusals.specs.Refusals.{answer_in};
 ghost use Rattle.wire.specs.Numbers.{byte_at, le2};
 ghost use Rattle.codes.specs.Codes.{row_of};
 ghost use Rattle.pen.specs.Pen.{inked, spot, pushed_all};
 ghost use Rattle.text_items.specs.Sorts.{entry_in};
 ghost use Rattle.text_parse.specs.Entry.{parsed_of};
+ghost use Rattle.cases.specs.Lines.{line_past, parts_in, parts_of};
 ghost use Rattle.cases.specs.Lent.{cell_with, row_lent, rows_lent, bytes_told};
 
 use annex::{Customers, HalfMinutes};
@@ -132,11 +134,19 @@ pub fn numbers_by_turns(line: &[u8]) -> Numbers<16>
 
 // ---- lines
 
+// Where a byte first stands.
+fn first_of(text: &[u8], byte: u8) -> Option<usize>
+    ensures { result ≡ position (λ b. b == byte) text.now }
+{
+    text.iter().position(|b| *b == byte)
+}
+
 // A word past, and the space behind it.
 pub fn past_word(line: &[u8]) -> &[u8]
-    ensures { length result.now ≤ length line.now - 1 }
+    ensures rest { result.now ≡ after_first (λ b. b == 32) line.now }
+    ensures shorter { length result.now ≤ length line.now - 1 }
 {
-    match line.iter().position(|b| *b == b' ') {
+    match first_of(line, b' ') {
         Some(space) => &line[space + 1..],
         None => &[],
     }
@@ -145,10 +155,11 @@ pub fn past_word(line: &[u8]) -> &[u8]
 // The place after a line that begins at a place of the text.
 pub fn past_line(text: &[u8], start: usize) -> usize
     requires { start < length text.now }
+    ensures place { result ≡ line_past text.now start }
     ensures on { start < result }
     ensures within { result ≤ length text.now }
 {
-    match text[start..].iter().position(|b| *b == b'\n') {
+    match first_of(&text[start..], b'\n') {
         Some(newline) => start + newline + 1,
         None => text.len(),
     }
@@ -174,6 +185,7 @@ pub enum Line<'a> {
 impl<'a> Line<'a> {
     // A line whose colon stands at a place: at its end where it has none.
     pub fn told(line: &'a [u8], colon: usize) -> Line<'a>
+        ensures parts { parts_in result ≡ parts_of line.now colon }
         ensures passed { byte_at line.now 0 ≡ 35 → result ≡ Line.Passed }
         ensures heading { byte_at line.now 0 ≡ 45 → result ≡ Line.Heading }
     {
