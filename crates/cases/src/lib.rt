@@ -10,7 +10,7 @@ ghost use Rattle.pen.specs.Pen.{inked, spot, pushed_all};
 ghost use Rattle.text_items.specs.Sorts.{entry_in};
 ghost use Rattle.text_parse.specs.Entry.{parsed_of};
 ghost use Rattle.cases.specs.Lines.{line_past, parts_in, parts_of};
-ghost use Rattle.cases.specs.Lent.{cell_with, row_lent, rows_lent, bytes_told};
+ghost use Rattle.cases.specs.Lent.{cell_with, row_lent, rows_lent, sheet_lent, ledger_lent, ledger_with, bytes_told};
 
 use annex::{Customers, HalfMinutes};
 use fields::Sheet;
@@ -243,7 +243,7 @@ pub fn put_frame(pen: &mut Pen, size: u32, kind: u32, n: u64)
 // ---- a ledger that is lent
 
 fn sheet_of(v: [u64; 12]) -> Sheet
-    ensures { result.year ≡ get_or v 1 0 % 2 ^ 16 }
+    ensures { result ≡ sheet_lent v }
 {
     Sheet {
         there: v[0] == 1,
@@ -254,6 +254,7 @@ fn sheet_of(v: [u64; 12]) -> Sheet
 
 // THERE | YEAR | NN VN VVN | EVENTS SHORT: a ledger whose cells are all 0.
 pub fn ledger_of(v: [u64; 12]) -> Ledger
+    ensures all { result ≡ ledger_lent v }
     ensures year { result.sheet.year ≡ get_or v 1 0 % 2 ^ 16 }
     ensures events { result.events ≡ get_or v 5 0 % 2 ^ 16 }
     ensures short { result.short ≡ get_or v 6 0 % 2 ^ 16 }
@@ -297,6 +298,7 @@ pub fn place_of(typ: u64) -> usize
 
 // Sets the cells of the type that the numbers begin with. A type that is not listed has none.
 pub fn set_row(ledger: &mut Ledger, v: [u64; 12])
+    ensures all { ledger.new ≡ ledger_with ledger.old v }
     ensures rows { ledger.new.rows ≡ rows_lent ledger.old.rows (row_of (get_or v 0 0 % 2 ^ 8)) (row_lent v) }
     ensures events { ledger.new.events ≡ ledger.old.events }
 {
