@@ -1,7 +1,7 @@
 // What the drivers of run cases share: printing, the numbers and the sort of a line, and what a line stands for.
 #![tactic(auto)]
 
-ghost use Rattle.std.specs.Prelude.{◌≡◌, ◌↔◌, ◌-◌, ◌%◌, ◌<◌, ◌≤◌, ◌^◌, ◌==◌, length, get_or, position, IsSome, IfSome};
+ghost use Rattle.std.specs.Prelude.{◌≡◌, ◌↔◌, ◌-◌, ◌%◌, ◌<◌, ◌≤◌, ◌^◌, ◌==◌, length, get_or, fold, min, position, IsSome, IfSome};
 ghost use Rattle.std.specs.List.{after_first};
 ghost use Rattle.refusals.specs.Refusals.{answer_in};
 ghost use Rattle.wire.specs.Numbers.{byte_at, le2};
@@ -9,6 +9,7 @@ ghost use Rattle.codes.specs.Codes.{row_of};
 ghost use Rattle.pen.specs.Pen.{inked, spot, pushed_all};
 ghost use Rattle.text_items.specs.Sorts.{entry_in};
 ghost use Rattle.text_parse.specs.Entry.{parsed_of};
+ghost use Rattle.cases.specs.Runs.{runs_of, wrapped, fitted, numbers_in, twelve_of, turns_in};
 ghost use Rattle.cases.specs.Lines.{line_past, parts_in, parts_of};
 ghost use Rattle.cases.specs.Lent.{cell_with, row_lent, rows_lent, sheet_lent, ledger_lent, ledger_with, bytes_told};
 
@@ -83,24 +84,35 @@ pub struct Numbers<const N: usize> {
 }
 
 // A number with one digit more. What a u64 has no room for wraps, and past that no digit is added.
-fn wrapping(value: u64, digit: u8) -> u64 {
+fn wrapping(value: u64, digit: u8) -> u64
+    ensures { result ≡ wrapped value digit }
+{
     let digit = u64::from(digit % 16);
     value
         .checked_mul(10)
         .map_or(value, |tens| tens.wrapping_add(digit))
 }
 
+// The number of a run of digits.
+fn number_of(digits: &[u8]) -> u64
+    ensures { result ≡ fold wrapped 0 digits.now }
+{
+    digits
+        .iter()
+        .fold(0, |value, digit| wrapping(value, *digit))
+}
+
 // The first twelve numbers of a line, the first at place 0.
 pub fn first_numbers(line: &[u8]) -> Numbers<12>
-    ensures { result.count ≤ 12 }
+    ensures values { result.values ≡ twelve_of (numbers_in (runs_of line.now)) }
+    ensures count { result.count ≡ min 12 (length (runs_of line.now)) }
+    ensures within { result.count ≤ 12 }
 {
     let mut values = [0; 12];
     let mut count = 0;
     for digits in line.split(|b| !b.is_ascii_digit()) {
         if !digits.is_empty() && count < values.len() {
-            values[count] = digits
-                .iter()
-                .fold(0, |value, digit| wrapping(value, *digit));
+            values[count] = number_of(digits);
             count += 1;
         }
     }
@@ -108,25 +120,36 @@ pub fn first_numbers(line: &[u8]) -> Numbers<12>
 }
 
 // A number with one digit more, as long as a u64 has room for it.
-fn fitting(value: u64, digit: u8) -> u64 {
+fn fitting(value: u64, digit: u8) -> u64
+    ensures { result ≡ fitted value digit }
+{
     let digit = u64::from(digit % 16);
     value.checked_mul(10).map_or(value, |tens| {
         tens.checked_add(digit).unwrap_or(tens + digit % 6)
     })
 }
 
+// A number with a run of digits more.
+fn number_from(value: u64, digits: &[u8]) -> u64
+    ensures { result ≡ fold fitted value digits.now }
+{
+    digits
+        .iter()
+        .fold(value, |value, digit| fitting(value, *digit))
+}
+
 // The numbers of a line, the first at place 1: place 0 is the word's. Behind the fifteenth place comes the first again.
 pub fn numbers_by_turns(line: &[u8]) -> Numbers<16>
-    ensures { result.count < 16 }
+    ensures values { result.values ≡ (turns_in (runs_of line.now)).values }
+    ensures count { result.count ≡ (turns_in (runs_of line.now)).count }
+    ensures below { result.count < 16 }
 {
     let mut values = [0; 16];
     let mut count = 0;
     for digits in line.split(|b| !b.is_ascii_digit()) {
         if !digits.is_empty() {
             count = count % 15 + 1;
-            values[count] = digits
-                .iter()
-                .fold(values[count], |value, digit| fitting(value, *digit));
+            values[count] = number_from(values[count], digits);
         }
     }
     Numbers { values, count }
