@@ -23,22 +23,30 @@ use text_items::Entry;
 
 // ---- what is printed; what cannot be written is left out
 
-pub fn write(out: &impl Print, text: &[u8]) {
+pub fn write(out: &impl Print, text: &[u8])
+    ensures { result ≡ tt }
+{
     let _ = out.write_all(text);
 }
 
 // A text, and a newline behind it.
-pub fn write_line(out: &impl Print, text: &[u8]) {
+pub fn write_line(out: &impl Print, text: &[u8])
+    ensures { result ≡ tt }
+{
     write(out, text);
     write(out, b"\n");
 }
 
 // A number, and a space in front of it.
-pub fn write_number<N: Display + Drop>(out: &impl Print, n: N) {
+pub fn write_number<N: Display + Drop>(out: &impl Print, n: N)
+    ensures { result ≡ tt }
+{
     let _ = print!(out; " {n}");
 }
 
-pub fn write_numbers(out: &impl Print, all: &[u64]) {
+pub fn write_numbers(out: &impl Print, all: &[u64])
+    ensures { result ≡ tt }
+{
     for n in all {
         write_number(out, *n);
     }
