@@ -115,7 +115,8 @@ impl<'a, P: Print, E: Print> Text<'a, P, E> {
     // What is wrong at a place of a line: what stands there where it has a name, and else what was expected.
     fn tell_wrong(&self, line: &[u8], wrong: Wrong) {
         self.tell_where(next(wrong.at as u64));
-        let sentence = match likeness::likeness_of(line, wrong.at, wrong.expected, self.year) {
+        let expected = Some(wrong.expected);
+        let sentence = match likeness::likeness_of(line, wrong.at, expected, self.year) {
             Some(likeness) => likeness_sentence(likeness),
             None => expected_sentence(wrong.expected),
         };

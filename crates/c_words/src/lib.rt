@@ -182,6 +182,19 @@ pub fn lent_ledger(header: u64, words: &[u64]) -> Ledger
     ledger_in(words)
 }
 
+// What a call behind answers by its number, and its ledger, which is written where that is 0.
+#[tactic(auto, unfolding(crate::specs::Inside::settled))]
+#[inline(always)]
+pub fn settle_number(header: u64, words: &mut [u64], answer: u8, ledger: Ledger) -> u32
+    ensures { (result ≡ headed header answer) × (words.new ≡ settled header words.old (record { answer = answer; ledger = ledger })) }
+{
+    let number = answer_by(header, answer);
+    if number == 0 {
+        write(words, ledger);
+    }
+    number
+}
+
 // The answer of the call behind, whose ledger is written where there is one.
 #[tactic(auto, using(refusals::proofs::NumberLaws::number_above_0), unfolding(crate::specs::Inside::settled))]
 #[inline(always)]
@@ -189,31 +202,30 @@ pub fn settle(header: u64, words: &mut [u64], taken: Result<Ledger, Refusal>) ->
     ensures { (result ≡ headed header (answer_in taken)) × (words.new ≡ settled header words.old (handed taken)) }
 {
     match taken {
-        Ok(ledger) => {
-            let number = answer_by(header, 0);
-            if number == 0 {
-                write(words, ledger);
-            }
-            number
-        }
+        Ok(ledger) => settle_number(header, words, 0, ledger),
         Err(refusal) => answer_by(header, u8::from(refusal)),
     }
 }
 
-// The same of two words and an output that has room for them.
+// The same of two words and an output that has room for them: by a number, and by what there is.
+pub fn put_number(header: u64, out: &mut [u64], answer: u8, words: [u64; 2]) -> u32
+    requires { length out.old ≡ 2 }
+    ensures { (result ≡ headed header answer) × (out.new ≡ if_accepted (headed header answer) words out.old) }
+{
+    let told = answer_by(header, answer);
+    if told == 0 {
+        out[0] = words[0];
+        out[1] = words[1];
+    }
+    told
+}
+
 pub fn put(header: u64, out: &mut [u64], words: Result<[u64; 2], Refusal>) -> u32
     requires { length out.old ≡ 2 }
     ensures { (result ≡ headed header (answer_in words)) × (out.new ≡ if_accepted (headed header (answer_in words)) (words_in words) out.old) }
 {
     match words {
-        Ok(pair) => {
-            let answer = answer_by(header, 0);
-            if answer == 0 {
-                out[0] = pair[0];
-                out[1] = pair[1];
-            }
-            answer
-        }
+        Ok(pair) => put_number(header, out, 0, pair),
         Err(refusal) => answer_by(header, u8::from(refusal)),
     }
 }

@@ -1,6 +1,8 @@
 -- No second outcome meets what a public function of this crate promises. Assumes nothing.
 use mathlib.Core.Path.{refl}
 use Rattle.base.proofs.OneOutcome.{OneOutcome, alike}
+use Rattle.desk_scan.proofs.enter.Kinds as enter-numbers-kinds
+use Rattle.desk_scan.proofs.enter.Reads as enter-numbers
 use Rattle.desk_scan.proofs.Roll.none.Kinds as none-kinds
 use Rattle.desk_scan.proofs.Roll.none.Reads as none
 use Rattle.desk_scan.proofs.Roll.enter.Kinds as enter-kinds
@@ -11,6 +13,10 @@ use Rattle.desk_scan.proofs.Roll.place_of.Kinds as place-of-kinds
 use Rattle.desk_scan.proofs.Roll.place_of.Reads as place_of
 use Rattle.desk_scan.proofs.Roll.named.Kinds as named-kinds
 use Rattle.desk_scan.proofs.Roll.named.Reads as named
+
+-- answer and numbers are decided
+pub enter_numbers_one : OneOutcome enter-numbers-kinds.ps enter-numbers-kinds.r enter-numbers.Post
+enter_numbers_one κs a x y v w p q = (alike p.0 q.0, λ i. (alike p.1 q.1 i, (tt, (tt, (tt, tt)))))
 
 pub none_one : OneOutcome none-kinds.ps none-kinds.r none.Post
 none_one κs a x y v w p q = (alike p q, refl)

@@ -4,7 +4,7 @@
 ghost use Rattle.std.specs.Prelude.{◌≡◌, drop};
 ghost use Rattle.base.specs.Lists.{listed};
 ghost use Rattle.desk_scan.specs.Desk.{differ, number_in};
-ghost use Rattle.desk_scan.specs.Inside.{no_roll, rolled_slot, roll_sound, found};
+ghost use Rattle.desk_scan.specs.Inside.{no_roll, roll_by, rolled_slot, roll_sound, found};
 
 use slot::Slot;
 
@@ -39,6 +39,17 @@ fn numbers_differ(table: &[u16; SLOTS]) -> bool
         ok = ok & ((number == 0) | !listed_from(table, i + 1, number));
     }
     ok
+}
+
+// Enters the slot at an index among numbers of any length: its number is written where they reach, and the answer is whether all slots so far are sound.
+#[tactic(auto, unfolding(crate::specs::Inside::rolled_slot))]
+pub fn enter(numbers: &mut [u16], sound: bool, at: usize, slot: Slot) -> bool
+    ensures { (result ≡ (rolled_slot (roll_by sound numbers.old) at slot).sound) × (numbers.new ≡ (rolled_slot (roll_by sound numbers.old) at slot).numbers) }
+{
+    if at < numbers.len() {
+        numbers[at] = slot.head.number;
+    }
+    sound & slot.sound()
 }
 
 impl Roll {

@@ -1,4 +1,4 @@
--- A word in whichever letters and letters behind gaps, one byte at a time. Assumes nothing.
+-- A word in whichever letters and letters behind gaps, one byte at a time; and numbers that name nothing. Assumes nothing.
 use Prim.Native.Nat.{ℕ, ◌+◌, ◌<◌, ◌≤◌}
 use mathlib.Core.Path.{◌≡◌, refl, sym, ap, ◌∙◌}
 use mathlib.Core.Bool.{Bool, true, false, ◌&&◌, and-false}
@@ -8,12 +8,13 @@ use lib.ListN.{length, drop, get_or}
 use lib.Seq.{drop-cons}
 use native.Mathlib.Omega.{arith}
 use native.Mathlib.Numerals.{add-one}
-use borrow.Author.Tests.{lt-ltb, le-ltb, leb-true, leb-false}
+use borrow.Author.Tests.{ne_eqb, lt-ltb, le-ltb, ltb-true, leb-true, leb-false}
 use Rattle.std.specs.Char.{to_ascii_lowercase}
 use Rattle.std.specs.List.{list_all, zip}
 use Rattle.base.proofs.TestLaws.{Tested, holds, fails, test}
 use Rattle.text_scan.specs.Scan.{is_gap, parted_here}
-use Rattle.likeness.specs.Likeness.{is_letter, lowered, begins_alike, is_alike, letters_in}
+use Rattle.text_scan.specs.Outcomes.{number_named}
+use Rattle.likeness.specs.Likeness.{is_letter, lowered, begins_alike, is_alike, letters_in, likeness_of}
 
 -- the library's small letter is that of the definition
 lowered_is : (b : ℕ) → to_ascii_lowercase b ≡ lowered b
@@ -57,3 +58,18 @@ module _ (s w : List ℕ) where
 module _ (s : List ℕ) (i : ℕ) (behind : Bool) where
   pub letters_later : i < length s → eqb (get_or s i 0) 35 ≡ false → (behind && is_letter (get_or s i 0)) ≡ false → letters_in behind (drop i s) ≡ letters_in (is_gap (get_or s i 0)) (drop (i + 1) s)
   letters_later h n e = rw (add-one, drop-cons s i 0, n, e)
+
+-- a number that names nothing of what is expected is taken as 0, and any other as it is: the definition says the same of both
+module _ (line : List ℕ) (at n year : ℕ) where
+  pub named_alike : likeness_of line at n year ≡ likeness_of line at (number_named n) year
+  unfolding likeness_of
+  named_alike = go (test (ltb 15 n))
+    where
+      past : (k : ℕ) → 15 < n → k ≤ 15 → eqb n k ≡ false
+      past k h l = ne_eqb n k (λ z. omega (arith, h, l, z))
+
+      go : Tested (ltb 15 n) → likeness_of line at n year ≡ likeness_of line at (number_named n) year
+      go (holds e) =
+          let h : 15 < n = ltb-true 15 n e in
+          rw (past 1 h (omega arith), past 10 h (omega arith), past 2 h (omega arith), past 6 h (omega arith), past 9 h (omega arith), e) refl
+      go (fails e) = rw e refl

@@ -3,7 +3,7 @@
 
 ghost use Rattle.std.specs.Prelude.{◌≡◌, ◌||◌, false, eqb};
 ghost use Rattle.text_items.specs.Sorts.{item_number};
-ghost use Rattle.text_scan.specs.Outcomes.{expected_number};
+ghost use Rattle.text_scan.specs.Outcomes.{expected_number, asked_number};
 ghost use Rattle.likeness.specs.Likeness.{is_letter, begins_alike, any_alike, letters_in, word_like, item_like, marks_time, time_goes_on, gap_like, likeness_of};
 ghost use Rattle.likeness.specs.Numbers.{like_number};
 
@@ -151,10 +151,16 @@ fn asks_item(expected: Expected) -> bool
     )
 }
 
-// What stands at a place of a line that was refused there, by what was expected; the year is that of the sheet before it.
-pub fn likeness_of(line: &[u8], at: usize, expected: Expected, year: u16) -> Option<Likeness>
-    ensures { like_number result ≡ likeness_of line.now at (expected_number expected) year }
+// What stands at a place of a line that was refused there, by what was expected, if that has a name; the year is that of the sheet before it.
+pub fn likeness_of(
+    line: &[u8],
+    at: usize,
+    expected: Option<Expected>,
+    year: u16,
+) -> Option<Likeness>
+    ensures { like_number result ≡ likeness_of line.now at (asked_number expected) year }
 {
+    let expected = expected?;
     let s = wire::part(line, at, line.len());
     match expected {
         Expected::Word => word_like(s),

@@ -1,9 +1,11 @@
 -- No second outcome meets what a public function of this crate promises. Assumes nothing.
 use mathlib.Core.Path.{refl}
 use Rattle.base.proofs.OneOutcome.{OneOutcome, alike}
-use Rattle.text_scan.proofs.OutcomeLaws.{same_gap, same_found}
+use Rattle.text_scan.proofs.OutcomeLaws.{same_asked, same_gap, same_found}
 use Rattle.text_scan.proofs.Expected.at.Kinds as at-kinds
 use Rattle.text_scan.proofs.Expected.at.Reads as at_lem
+use Rattle.text_scan.proofs.Expected.named.Kinds as named-kinds
+use Rattle.text_scan.proofs.Expected.named.Reads as named
 use Rattle.text_scan.proofs.is_gap.Kinds as is-gap-kinds
 use Rattle.text_scan.proofs.is_gap.Reads as is-gap
 use Rattle.text_scan.proofs.is_digit.Kinds as is-digit-kinds
@@ -25,6 +27,9 @@ use Rattle.text_scan.proofs.item_found.Reads as item-found
 
 pub at_one : OneOutcome at-kinds.ps at-kinds.r at_lem.Post
 at_one κs a x y v w p q = (alike p q, refl)
+
+pub named_one : OneOutcome named-kinds.ps named-kinds.r named.Post
+named_one κs a x y v w p q = (same_asked x y (alike p q), refl)
 
 pub is_gap_one : OneOutcome is-gap-kinds.ps is-gap-kinds.r is-gap.Post
 is_gap_one κs a x y v w p q = (alike p q, refl)

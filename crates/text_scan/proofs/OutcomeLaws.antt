@@ -1,5 +1,5 @@
 -- What was expected is told by its number, which is not 0, and an outcome by what it says. Assumes nothing.
-use Rattle.std.specs.Prelude.{ℕ, ◌≡◌, ◌<◌, ◌≤◌, Bool, false, cond, eqb, Result, Ok, Err}
+use Rattle.std.specs.Prelude.{ℕ, ◌≡◌, ◌<◌, ◌≤◌, Bool, false, cond, eqb, Option, Some, None, Result, Ok, Err}
 use mathlib.Core.Path.{refl, ap, sym, ◌∙◌}
 use native.Mathlib.Omega.{arith}
 use borrow.Author.Tests.{ne_eqb}
@@ -8,7 +8,7 @@ use Rattle.text_scan.specs.declared.Found.{Found as Item}
 use Rattle.text_scan.specs.declared.Wrong.{Wrong}
 use Rattle.text_scan.specs.declared.Expected.{Expected}
 use Rattle.text_scan.specs.declared.Expected.TheVariants.{Word, Number, AtMost255, AtMost65535, AtMost4294967295, Time, SheetBefore, DayOfYear, TwoDigits, Gap, NoMore, More, OtherSeparator, Separator, EmptyCell}
-use Rattle.text_scan.specs.Outcomes.{expected_number, wrong_in, found_in, gap_in}
+use Rattle.text_scan.specs.Outcomes.{expected_number, asked_number, wrong_in, found_in, gap_in}
 
 expected_with : ℕ → Expected
 expected_with n =
@@ -52,6 +52,21 @@ expected_above_0 OtherSeparator = omega arith
 expected_above_0 Separator = omega arith
 expected_above_0 EmptyCell = omega arith
 
+above_0 : (n : ℕ) → 1 ≤ n → eqb n 0 ≡ false
+above_0 n h = ne_eqb n 0 (λ e. omega arith)
+
+-- what has no name is told from every name
+asked_with : ℕ → Option Expected
+asked_with n = cond (eqb n 0) None (Some (expected_with n))
+
+asked_back : (x : Option Expected) → asked_with (asked_number x) ≡ x
+unfolding asked_with
+asked_back None = refl
+asked_back (Some e) = ap (λ (t : Bool). cond t None (Some (expected_with (expected_number e)))) (above_0 (expected_number e) (expected_above_0 e)) ∙ ap Some (expected_back e)
+
+pub same_asked : (x y : Option Expected) → asked_number x ≡ asked_number y → x ≡ y
+same_asked x y same = sym (asked_back x) ∙ ap asked_with same ∙ asked_back y
+
 pub expected_below_16 : (e : Expected) → expected_number e < 16
 expected_below_16 Word = omega arith
 expected_below_16 Number = omega arith
@@ -83,9 +98,6 @@ same_wrong v w same = sym (wrong_back v) ∙ ap wrong_with same ∙ wrong_back w
 -- an outcome, by what is said of it
 found_with : Found → Result Item Wrong
 found_with r = cond (eqb r.answer 0) (Ok (record { value = r.value; used = r.used })) (Err (wrong_with r))
-
-above_0 : (n : ℕ) → 1 ≤ n → eqb n 0 ≡ false
-above_0 n h = ne_eqb n 0 (λ e. omega arith)
 
 -- and what is wrong is not answered by 0, nor by the line's end
 pub wrong_answer : (w : Wrong) → eqb (wrong_in w).answer 0 ≡ false

@@ -23,6 +23,15 @@ expected_number OtherSeparator = 13
 expected_number Separator = 14
 expected_number EmptyCell = 15
 
+-- the number of what was expected, if that has a name; 0: it has none
+abbrev pub asked_number : Option Expected → ℕ
+asked_number None = 0
+asked_number (Some e) = expected_number e
+
+-- a number as far as it names what was expected, 1 to 15; any other names nothing, as 0 does
+abbrev pub number_named : ℕ → ℕ
+number_named n = cond (ltb 15 n) 0 n
+
 -- what was expected, so many bytes on
 abbrev pub wrong_at : Expected → ℕ → Wrong
 wrong_at e at = record { expected = e; at = at }

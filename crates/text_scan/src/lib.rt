@@ -3,7 +3,7 @@
 
 ghost use Rattle.std.specs.Prelude.{◌≡◌, ◌-◌};
 ghost use Rattle.text_items.specs.Sorts.{item_number};
-ghost use Rattle.text_scan.specs.Outcomes.{expected_number, wrong_at, found_in, gap_in, place_within, below_16};
+ghost use Rattle.text_scan.specs.Outcomes.{expected_number, asked_number, number_named, wrong_at, found_in, gap_in, place_within, below_16};
 ghost use Rattle.text_scan.specs.Scan.{is_gap, gaps_in, ends_here, parted_here, separates, separator_of, is_other, other_at, separator_place, gap_said, digits_of, number_found, date_found, time_found, hex_found, item_found};
 
 use calendar::Date;
@@ -37,6 +37,30 @@ pub struct Wrong {
 }
 
 impl Expected {
+    // What a number names: 1 to 15, as they stand; any other names nothing.
+    pub fn named(number: u8) -> Option<Expected>
+        ensures { asked_number result ≡ number_named number }
+    {
+        match number {
+            1 => Some(Expected::Word),
+            2 => Some(Expected::Number),
+            3 => Some(Expected::AtMost255),
+            4 => Some(Expected::AtMost65535),
+            5 => Some(Expected::AtMost4294967295),
+            6 => Some(Expected::Time),
+            7 => Some(Expected::SheetBefore),
+            8 => Some(Expected::DayOfYear),
+            9 => Some(Expected::TwoDigits),
+            10 => Some(Expected::Gap),
+            11 => Some(Expected::NoMore),
+            12 => Some(Expected::More),
+            13 => Some(Expected::OtherSeparator),
+            14 => Some(Expected::Separator),
+            15 => Some(Expected::EmptyCell),
+            0 | 16..=255 => None,
+        }
+    }
+
     // What was expected, so many bytes on.
     pub fn at(self, at: usize) -> Wrong
         ensures { result ≡ wrong_at self at }

@@ -1,10 +1,9 @@
 -- Invariant: the rows read so far, and those that the words from there on hold, are all that the words hold. Assumes nothing.
-use Prim.Native.Nat.{◌+◌, ◌-◌}
+use Prim.Native.Nat.{◌+◌}
 use mathlib.Core.Path.{sym, ap, ◌∙◌}
 use mathlib.Core.List.{◌++◌}
 use lib.ListN.{set, take, drop, length-set}
 use native.Mathlib.Omega.{arith}
-use Rattle.codes.specs.Codes as codes
 use Rattle.c_words.specs.Words.{cells_of, rows_of}
 use Rattle.c_words.proofs.WordLaws.{row_start, read_more, read_ends}
 use borrow.Author.Rules.{rules}

@@ -1,10 +1,9 @@
 -- Invariant: the words written so far, and those of the rows that are left, are all that is to be written. Assumes nothing.
-use Prim.Native.Nat.{◌+◌, ◌-◌}
+use Prim.Native.Nat.{◌+◌}
 use mathlib.Core.Path.{sym, ap, ◌∙◌}
 use mathlib.Core.List.{◌++◌}
 use lib.ListN.{take, drop}
 use native.Mathlib.Omega.{arith}
-use Rattle.codes.specs.Codes as codes
 use Rattle.c_words.specs.Words.{cell_words, cells_in}
 use Rattle.c_words.proofs.WordLaws.{row_start, write_more, write_ends}
 use borrow.Author.Rules.{rules}
