@@ -6,7 +6,7 @@ use likeness::Likeness;
 use std::fs::File;
 use std::io::Read;
 use std::rt::{Env, Files};
-use text_items::Sort;
+use text_items::{Entry, Sort};
 use text_scan::{Expected, Wrong};
 
 // More pieces than any file has: 2^40. Past them the reading has failed.
@@ -134,23 +134,28 @@ impl<'a, P: Print, E: Print> Text<'a, P, E> {
         Ok(())
     }
 
-    // One line, whose bytes are put behind those that wait where the book is to be written.
-    fn take_line(&mut self, line: &[u8]) -> Result<(), Told> {
-        let entry = match text_parse::parse(line, self.year) {
-            Ok(parsed) => parsed.entry,
-            Err(wrong) => {
-                self.tell_wrong(line, wrong);
-                return Err(Told);
-            }
-        };
+    // The bytes that an entry stands for, behind those that wait where the book is to be written. A sheet tells the year.
+    fn put(&mut self, entry: Entry) {
         let end = pack::pack(&mut self.out, self.at, entry);
         if entry.kind == Sort::Sheet {
             self.year = unpack::year_after(self.year, wire::part(&self.out, self.at, end));
         }
-        self.line = next(self.line);
         if self.writing {
             self.at = end;
         }
+    }
+
+    // One line. A blank one stands for no bytes.
+    fn take_line(&mut self, line: &[u8]) -> Result<(), Told> {
+        match text_parse::parse(line, self.year) {
+            Ok(parsed) if parsed.entry.kind == Sort::Blank => {}
+            Ok(parsed) => self.put(parsed.entry),
+            Err(wrong) => {
+                self.tell_wrong(line, wrong);
+                return Err(Told);
+            }
+        }
+        self.line = next(self.line);
         if MOST_WAITING <= self.at {
             return self.write_out();
         }
