@@ -408,6 +408,15 @@ module _ (line : List ℕ) (at kind k year sep : ℕ) where
       pub last_end : (end : ℕ) → said_at 255 end ≡ cell_there → parsed_in r ≡ ended_by 255 end kind k values → parsed_in r ≡ p
       last_end end told ends = tells_end end told ends (goes ∙ going_last line at kind k year sep values (next_cell (drop at line) kind k year sep) refl)
 
+    -- with any
+    pub stops_wrong : (n : ℕ) → p ≡ going_on n line at kind k year sep values → (w : Wrong) → r ≡ Err w → wrong_in w ≡ cell_there → parsed_in r ≡ p
+    stops_wrong zero goes w is told = last_wrong goes w is told
+    stops_wrong (suc n) goes w is told = gather_wrong n goes w is told
+
+    pub stops_end : (n : ℕ) → p ≡ going_on n line at kind k year sep values → (end : ℕ) → said_at 255 end ≡ cell_there → parsed_in r ≡ ended_by 255 end kind k values → parsed_in r ≡ p
+    stops_end zero goes end told ends = last_end goes end told ends
+    stops_end (suc n) goes end told ends = gather_end n goes end told ends
+
   pub gather_item :
       (values : List ℕ) (p : Parsed) (n value used : ℕ) → p ≡ going_on (suc n) line at kind k year sep values → read value used ≡ cell_there →
       p ≡ going_on n line used kind (k + 1) year sep (set values k value)

@@ -151,25 +151,23 @@ impl Items {
         }
     }
 
-    // The entry of a line whose items are read from a place on.
+    // The entry of a line whose items are read from a place on. The longest line has 261, and one turn more meets its end.
     fn gather(self, line: &[u8], start: usize) -> Result<Parsed, Wrong>
         ensures { parsed_in result ≡ gathered line.now start (sort_number self.kind) self.year self.sep }
     {
         let mut values = [0u32; 261];
         let mut at = start;
-        for k in 0..261 {
+        for k in 0..262 {
             match self.next_at(line, at, k)? {
-                Next::Item(found) => {
+                Next::Item(found) if k < 261 => {
                     values[k] = found.value;
                     at = found.used;
                 }
+                Next::Item(found) => return Err(Expected::NoMore.at(found.used)),
                 Next::End(end) => return ended(end, self.kind, k, values),
             }
         }
-        match self.next_at(line, at, 261)? {
-            Next::Item(found) => Err(Expected::NoMore.at(found.used)),
-            Next::End(end) => ended(end, self.kind, 261, values),
-        }
+        Err(Expected::NoMore.at(at))
     }
 
     // How many items of a line are read, from a place on.
