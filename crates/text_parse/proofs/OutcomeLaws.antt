@@ -1,5 +1,5 @@
 -- An entry, or what is wrong, is told by what it says. Assumes nothing.
-use Rattle.std.specs.Prelude.{ℕ, ◌≡◌, false, eqb, Result, Ok, Err}
+use Rattle.std.specs.Prelude.{◌≡◌, false, eqb, Result, Ok, Err}
 use mathlib.Core.Bool.{true≢false}
 use mathlib.Core.Path.{ap, sym, ◌∙◌}
 use Rattle.text_items.specs.Entry.{Entry as Said}

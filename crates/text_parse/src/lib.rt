@@ -85,7 +85,7 @@ impl Items {
         ensures { next_in result ≡ next_field s.now (sort_number self.kind) k self.year }
     {
         let skipped = text_scan::gaps_in(s);
-        let body = wire::part(s, skipped, s.len());
+        let body = &s[skipped..];
         if text_scan::ends_here(body) {
             return Ok(Next::End(skipped));
         }
@@ -101,7 +101,7 @@ impl Items {
             Err(wrong) => return Err(wrong.expected.at(skipped)),
         };
         let past = skipped + found.used;
-        if !text_scan::parted_here(wire::part(s, past, s.len())) {
+        if !text_scan::parted_here(&s[past..]) {
             return Err(Expected::Gap.at(past));
         }
         Ok(Next::Item(Found {

@@ -12,8 +12,7 @@ use Rattle.text_scan.specs.declared.Wrong.{Wrong}
 use Rattle.text_scan.specs.Outcomes.{expected_number, place_within}
 use Rattle.text_scan.specs.Scan.{gaps_in, ends_here, other_at}
 use Rattle.text_scan.proofs.ScanLaws.{part_is_rest, part_is_front, gaps_short, place_there, place_none}
-use Rattle.text_parse.specs.Records.{Word, Parsed}
-use Rattle.text_parse.specs.Outcomes.{parsed_in}
+use Rattle.text_parse.specs.Records.{Word}
 use Rattle.text_parse.specs.Entry.{word_of, refused_at, gathered}
 use Rattle.text_parse.proofs.EntryLaws.{word_short, other_before, front_long, parse_blank, parse_other, parse_wordless, parse_gathers}
 use Rattle.text_parse.proofs.parse.Goals as goal
