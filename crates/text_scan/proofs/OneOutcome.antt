@@ -2,6 +2,8 @@
 use mathlib.Core.Path.{refl}
 use Rattle.base.proofs.OneOutcome.{OneOutcome, alike}
 use Rattle.text_scan.proofs.OutcomeLaws.{same_gap, same_found}
+use Rattle.text_scan.proofs.Expected.at.Kinds as at-kinds
+use Rattle.text_scan.proofs.Expected.at.Reads as at_lem
 use Rattle.text_scan.proofs.is_gap.Kinds as is-gap-kinds
 use Rattle.text_scan.proofs.is_gap.Reads as is-gap
 use Rattle.text_scan.proofs.is_digit.Kinds as is-digit-kinds
@@ -20,6 +22,9 @@ use Rattle.text_scan.proofs.gap_said.Kinds as gap-said-kinds
 use Rattle.text_scan.proofs.gap_said.Reads as gap-said
 use Rattle.text_scan.proofs.item_found.Kinds as item-found-kinds
 use Rattle.text_scan.proofs.item_found.Reads as item-found
+
+pub at_one : OneOutcome at-kinds.ps at-kinds.r at_lem.Post
+at_one κs a x y v w p q = (alike p q, refl)
 
 pub is_gap_one : OneOutcome is-gap-kinds.ps is-gap-kinds.r is-gap.Post
 is_gap_one κs a x y v w p q = (alike p q, refl)
