@@ -1,13 +1,13 @@
 -- No second outcome meets what a public function of this crate promises. Assumes nothing.
 use Prim.Native.Nat.{ℕ}
-use mathlib.Core.Path.{◌≡◌, refl}
+use Rattle.std.specs.Prelude.{Result, Ok, Err}
+use mathlib.Core.Path.{◌≡◌, refl, sym, ap}
 use mathlib.Core.List.{List}
-use contract.Lifetimes.{Lfts}
-use denote.RattleType.{RattleType}
-use denote.Param.Laws.{Laws}
-use denote.Triple.Clauses.{Lasts}
-use borrow.Fn.Kinds.{ParamKind, ResultKind, Dens, ended_of}
-use Rattle.base.proofs.OneOutcome.{OneOutcome, alike, SeenAlike}
+use lib.ListN.{get_or, drop}
+use Rattle.base.proofs.OneOutcome.{OneOutcome, alike}
+use Rattle.refusals.specs.declared.Refusal.{Refusal}
+use Rattle.refusals.proofs.NumberLaws.{same_refusal, no_refusal_0}
+use Rattle.c_codes.specs.Named.{numbers_in}
 use Rattle.c_codes.proofs.index_named.Kinds as index-named-kinds
 use Rattle.c_codes.proofs.index_named.Reads as index_named_lem
 use Rattle.c_codes.proofs.level_named.Kinds as level-named-kinds
@@ -23,10 +23,6 @@ use Rattle.c_codes.proofs.decimal_pair.Reads as decimal_pair
 use Rattle.c_codes.proofs.digits_or_7.Kinds as digits-or-7-kinds
 use Rattle.c_codes.proofs.digits_or_7.Reads as digits-or-7
 
--- no argument lends memory that is seen at exit
-abbrev LendsNothing : {n : ℕ} (ps : List (ParamKind n)) (r : ResultKind n) → Type 0
-LendsNothing {n} ps r = (κs : Lfts n) (a : Dens κs ps) (v w : Lasts (ended_of n ps r) κs a) → v ≡ w
-
 pub index_named_one : OneOutcome index-named-kinds.ps index-named-kinds.r index_named_lem.Post
 index_named_one κs a x y v w p q = (alike p q, refl)
 
@@ -39,19 +35,18 @@ set_named_one κs a x y v w p q = (alike p q, refl)
 pub all_named_one : OneOutcome all-named-kinds.ps all-named-kinds.r all_named.Post
 all_named_one κs a x y v w p q = (alike p q, refl)
 
--- whatever type a refusal is of, the answer is decided; and so is the outcome where that type lends nothing, as a number and a Refusal do
-module _ (E : RattleType) (laws : Laws E) where
-  pub fraction_pair_any : SeenAlike (fraction-pair.Post E laws) (λ κs x. x)
-  fraction_pair_any κs a x y s t p q = alike p q
+-- two answers of the same numbers are the same
+numbers_decide : (a b : Result (List ℕ) Refusal) → numbers_in a ≡ numbers_in b → a ≡ b
+numbers_decide (Ok m) (Ok n) p = ap Ok (ap (drop 1) p)
+numbers_decide (Ok m) (Err r) p = absurd (no_refusal_0 r (sym (ap (λ (ns : List ℕ). get_or ns 0 0) p)))
+numbers_decide (Err r) (Ok n) p = absurd (no_refusal_0 r (ap (λ (ns : List ℕ). get_or ns 0 0) p))
+numbers_decide (Err r) (Err s) p = ap Err (same_refusal r s (ap (λ (ns : List ℕ). get_or ns 0 0) p))
 
-  pub decimal_pair_any : SeenAlike (decimal_pair.Post E laws) (λ κs x. x)
-  decimal_pair_any κs a x y s t p q = alike p q
+pub fraction_pair_one : OneOutcome fraction-pair-kinds.ps fraction-pair-kinds.r fraction-pair.Post
+fraction_pair_one κs a x y v w p q = (numbers_decide x y (alike p q), refl)
 
-  pub fraction_pair_one : LendsNothing (fraction-pair-kinds.ps E laws) (fraction-pair-kinds.r E laws) → OneOutcome (fraction-pair-kinds.ps E laws) (fraction-pair-kinds.r E laws) (fraction-pair.Post E laws)
-  fraction_pair_one none κs a x y v w p q = (alike p q, none κs a v w)
-
-  pub decimal_pair_one : LendsNothing (decimal-pair-kinds.ps E laws) (decimal-pair-kinds.r E laws) → OneOutcome (decimal-pair-kinds.ps E laws) (decimal-pair-kinds.r E laws) (decimal_pair.Post E laws)
-  decimal_pair_one none κs a x y v w p q = (alike p q, none κs a v w)
+pub decimal_pair_one : OneOutcome decimal-pair-kinds.ps decimal-pair-kinds.r decimal_pair.Post
+decimal_pair_one κs a x y v w p q = (numbers_decide x y (alike p q), refl)
 
 pub digits_or_7_one : OneOutcome digits-or-7-kinds.ps digits-or-7-kinds.r digits-or-7.Post
 digits_or_7_one κs a x y v w p q = (alike p q, refl)

@@ -2,12 +2,15 @@
 #![tactic(auto)]
 
 ghost use Rattle.std.specs.Prelude.{◌≡◌, min};
-ghost use Rattle.c_codes.specs.Named.{index_named, level_named, set_named, all_named, fraction_words, decimal_words};
+ghost use Rattle.index.specs.Index.{exactly};
+ghost use Rattle.decimal.specs.Decimal.{decimally};
+ghost use Rattle.c_codes.specs.Named.{index_named, level_named, set_named, all_named, numbers_in};
 
 use codes::Set;
 use decimal::Decimal;
 use index::{Index, Level};
 use ratio::Fraction;
+use refusals::Refusal;
 
 // The index that a code names.
 pub fn index_named(code: u32) -> Index
@@ -50,16 +53,16 @@ pub fn all_named(index: u32, level: u32, set: u32) -> bool
     (1..=3).contains(&index) && (1..=4).contains(&level) && set <= 2
 }
 
-// An index's answer as two numbers, top and bottom or the whole part and the digits; a refusal, of whatever sort, is passed on.
-pub fn fraction_pair<E>(answer: Result<Fraction, E>) -> Result<[u64; 2], E>
-    ensures { result ≡ fraction_words answer }
+// An index's answer as two numbers: top and bottom, or the whole part and the digits.
+pub fn fraction_pair(answer: Result<Fraction, Refusal>) -> Result<[u64; 2], Refusal>
+    ensures { numbers_in result ≡ exactly answer }
 {
     let f = answer?;
     Ok([f.top, f.bottom])
 }
 
-pub fn decimal_pair<E>(shown: Result<Decimal, E>) -> Result<[u64; 2], E>
-    ensures { result ≡ decimal_words shown }
+pub fn decimal_pair(shown: Result<Decimal, Refusal>) -> Result<[u64; 2], Refusal>
+    ensures { numbers_in result ≡ decimally shown }
 {
     let d = shown?;
     Ok([d.whole, d.digits])

@@ -11,7 +11,6 @@ use Rattle.index.proofs.NumberLaws.{decimal_is}
 use Rattle.c_words.specs.Header.{headed, if_accepted}
 use Rattle.c_words.specs.Inside.{lent_ledger}
 use Rattle.c_codes.specs.Named.{index_named, level_named, set_named, numbers_in}
-use Rattle.c_codes.proofs.PairLaws.{decimal_decimally}
 use Rattle.temelyak.proofs.CallLaws.{answer_first, words_after, shown_cut, decimal_unnamed, decimal_paired, decimal_unpaired}
 use Rattle.temelyak.proofs.temelyak_decimal.Goals as goal
 
@@ -43,7 +42,7 @@ returns c =
     shown_cut (lent_ledger a.header a.ledger.now) (index_named a.index) (level_named a.level) (set_named a.set) a.digits in
     let pair = c.decimal_pair.result in
     let numbers : numbers_in pair ≡ decimally (shown_index (lent_ledger a.header a.ledger.now) (index_named a.index) (level_named a.level) (set_named a.set) a.digits) =
-    ap numbers_in c.decimal_pair.ensures ∙ decimal_decimally c.decimal_of-shown.result ∙ ap decimally asked in
+    c.decimal_pair.ensures ∙ ap decimally asked in
     let put = c.put.ensures in (
       put.0 ∙ ap (headed a.header) (answer_first pair) ∙ ap (λ (ns : List ℕ). headed a.header (get_or ns 0 0)) numbers ∙ u.0,
       put.1 ∙

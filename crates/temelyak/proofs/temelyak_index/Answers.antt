@@ -10,7 +10,6 @@ use Rattle.index.proofs.NumberLaws.{index_is}
 use Rattle.c_words.specs.Header.{headed, if_accepted}
 use Rattle.c_words.specs.Inside.{lent_ledger}
 use Rattle.c_codes.specs.Named.{index_named, level_named, set_named, numbers_in}
-use Rattle.c_codes.proofs.PairLaws.{fraction_exactly}
 use Rattle.temelyak.proofs.CallLaws.{answer_first, words_after, index_unnamed, index_paired, index_unpaired}
 use Rattle.temelyak.proofs.temelyak_index.Goals as goal
 
@@ -41,7 +40,7 @@ returns c =
     (λ i. index_of (c.lent_ledger-lent.ensures i) (c.index_named.ensures i) (c.level_named.ensures i) (c.set_named.ensures i)) in
     let pair = c.fraction_pair.result in
     let numbers : numbers_in pair ≡ exactly (index_of (lent_ledger a.header a.ledger.now) (index_named a.index) (level_named a.level) (set_named a.set)) =
-    ap numbers_in c.fraction_pair.ensures ∙ fraction_exactly c.index_of-answer.result ∙ ap exactly asked in
+    c.fraction_pair.ensures ∙ ap exactly asked in
     let put = c.put.ensures in (
       put.0 ∙ ap (headed a.header) (answer_first pair) ∙ ap (λ (ns : List ℕ). headed a.header (get_or ns 0 0)) numbers ∙ u.0,
       put.1 ∙
