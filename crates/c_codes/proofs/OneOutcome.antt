@@ -20,6 +20,10 @@ use Rattle.c_codes.proofs.fraction_pair.Kinds as fraction-pair-kinds
 use Rattle.c_codes.proofs.fraction_pair.Reads as fraction-pair
 use Rattle.c_codes.proofs.decimal_pair.Kinds as decimal-pair-kinds
 use Rattle.c_codes.proofs.decimal_pair.Reads as decimal_pair
+use Rattle.c_codes.proofs.fraction_numbers.Kinds as fraction-numbers-kinds
+use Rattle.c_codes.proofs.fraction_numbers.Reads as fraction-numbers
+use Rattle.c_codes.proofs.decimal_numbers.Kinds as decimal-numbers-kinds
+use Rattle.c_codes.proofs.decimal_numbers.Reads as decimal-numbers
 use Rattle.c_codes.proofs.digits_or_7.Kinds as digits-or-7-kinds
 use Rattle.c_codes.proofs.digits_or_7.Reads as digits-or-7
 
@@ -47,6 +51,12 @@ fraction_pair_one κs a x y v w p q = (numbers_decide x y (alike p q), refl)
 
 pub decimal_pair_one : OneOutcome decimal-pair-kinds.ps decimal-pair-kinds.r decimal_pair.Post
 decimal_pair_one κs a x y v w p q = (numbers_decide x y (alike p q), refl)
+
+pub fraction_numbers_one : OneOutcome fraction-numbers-kinds.ps fraction-numbers-kinds.r fraction-numbers.Post
+fraction_numbers_one κs a x y v w p q = (alike p q, refl)
+
+pub decimal_numbers_one : OneOutcome decimal-numbers-kinds.ps decimal-numbers-kinds.r decimal-numbers.Post
+decimal_numbers_one κs a x y v w p q = (alike p q, refl)
 
 pub digits_or_7_one : OneOutcome digits-or-7-kinds.ps digits-or-7-kinds.r digits-or-7.Post
 digits_or_7_one κs a x y v w p q = (alike p q, refl)

@@ -2,6 +2,8 @@
 use Rattle.std.specs.Prelude.{ℕ, List, [], ◌∷◌, Bool, ◌&&◌, cond, leb, eqb, Result, Ok, Err}
 use Rattle.refusals.specs.declared.Refusal.{Refusal}
 use Rattle.refusals.specs.Refusals.{number_of}
+use Rattle.ratio.specs.declared.Fraction.{Fraction}
+use Rattle.decimal.specs.declared.Decimal.{Decimal}
 use Rattle.codes.specs.declared.Set.{Set}
 use Rattle.codes.specs.declared.Set.TheVariants.{All, Std, Unnamed}
 use Rattle.index.specs.declared.Level.{Level}
@@ -29,3 +31,12 @@ all_named index level set = leb 1 index && leb index 3 && (leb 1 level && leb le
 abbrev pub numbers_in : Result (List ℕ) Refusal → List ℕ
 numbers_in (Ok ns) = 0 ∷ ns
 numbers_in (Err r) = number_of r ∷ []
+
+-- the two numbers of a fraction and those of a decimal; what is refused by a number is handed on
+abbrev pub fraction_words : Result Fraction ℕ → Result (List ℕ) ℕ
+fraction_words (Ok f) = Ok (f.top ∷ f.bottom ∷ [])
+fraction_words (Err n) = Err n
+
+abbrev pub decimal_words : Result Decimal ℕ → Result (List ℕ) ℕ
+decimal_words (Ok d) = Ok (d.whole ∷ d.digits ∷ [])
+decimal_words (Err n) = Err n

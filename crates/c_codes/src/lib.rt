@@ -4,7 +4,7 @@
 ghost use Rattle.std.specs.Prelude.{◌≡◌, min};
 ghost use Rattle.index.specs.Index.{exactly};
 ghost use Rattle.decimal.specs.Decimal.{decimally};
-ghost use Rattle.c_codes.specs.Named.{index_named, level_named, set_named, all_named, numbers_in};
+ghost use Rattle.c_codes.specs.Named.{index_named, level_named, set_named, all_named, numbers_in, fraction_words, decimal_words};
 
 use codes::Set;
 use decimal::Decimal;
@@ -66,6 +66,21 @@ pub fn decimal_pair(shown: Result<Decimal, Refusal>) -> Result<[u64; 2], Refusal
 {
     let d = shown?;
     Ok([d.whole, d.digits])
+}
+
+// The same where what was refused is told by any number, which is handed on.
+pub fn fraction_numbers(answer: Result<Fraction, u8>) -> Result<[u64; 2], u8>
+    ensures { result ≡ fraction_words answer }
+{
+    let exact = answer?;
+    Ok([exact.top, exact.bottom])
+}
+
+pub fn decimal_numbers(shown: Result<Decimal, u8>) -> Result<[u64; 2], u8>
+    ensures { result ≡ decimal_words shown }
+{
+    let rounded = shown?;
+    Ok([rounded.whole, rounded.digits])
 }
 
 // The number of digits, or 7 where there are more: no more are taken.
