@@ -5,10 +5,10 @@ use mathlib.Core.Bool.{Bool, true, false, cond}
 use mathlib.Core.List.{List, [], ◌∷◌, ◌++◌}
 use lib.ListN.{length, take, drop, get_or, length-take, length-append, drop_of_length-le}
 use lib.Dec.{eqb, ltb, leb}
-use lib.Seq.{drop-cons, get_or-take}
+use lib.Seq.{drop-cons}
 use native.Mathlib.Omega.{arith}
 use native.Mathlib.Numerals.{add-one}
-use borrow.Author.Tests.{ltb-true, ltb-false, eq-eqb, ne_eqb, le-leb, lt-leb}
+use borrow.Author.Tests.{ltb-true, ltb-false}
 use Rattle.annex.specs.Times.{minutes_in}
 use Rattle.base.proofs.TestLaws.{Tested, holds, fails, test}
 use Rattle.text.specs.Text.{number_text}

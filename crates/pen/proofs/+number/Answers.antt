@@ -1,9 +1,9 @@
 -- The last digit stands behind the digits of the tenth, which is smaller. Assumes nothing.
-use Rattle.std.proofs.Common.{rules, ap, ◌≡◌, ◌∙◌, sym, [], ℕ, ◌+◌, List, ◌∷◌, ◌/◌, ◌%◌}
+use Rattle.std.proofs.Common.{rules, ap, ◌∙◌, sym, [], ℕ, ◌+◌, List, ◌∷◌, ◌/◌, ◌%◌}
 use Rattle.text.specs.Text.{number_text}
 use Rattle.text.proofs.TextLaws.{number_ends, number_unrolls}
 use Rattle.pen.specs.declared.Pen.{Pen}
-use Rattle.pen.specs.Pen.{Spot, spot, pushed_all, inked}
+use Rattle.pen.specs.Pen.{Spot, inked}
 use Rattle.pen.proofs.PenLaws.{inked_append}
 use Rattle.pen.proofs.+number.Goals as goal
 
