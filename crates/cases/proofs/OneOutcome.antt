@@ -1,17 +1,14 @@
 -- No second outcome meets what a public function of this crate promises. Of the rest behind a word and of a line's name and body the promise decides what
 -- they are, and not where they lie. Of a function that prints, the outcome is that it returns: no promise speaks of what an output takes. Assumes nothing.
 use Prim.Native.Nat.{ℕ}
-use mathlib.Core.Path.{◌≡◌, refl, sym, ap, ◌∙◌}
-use mathlib.Core.List.{List}
+use mathlib.Core.Path.{◌≡◌, refl, ap}
 use mir.Syntax.{Dict}
-use contract.Lifetimes.{Lfts}
 use denote.RattleType.{RattleType}
 use denote.Param.Laws.{Laws}
-use denote.Triple.Clauses.{Lasts, at_exit}
-use borrow.Fn.Kinds.{ParamKind, ResultKind, Out, Dens, res_t, ended_of}
 use Rattle.std.specs.Prelude.{Option, Some, None, IsSome, IfSome, ◌↔◌}
 use Rattle.std.specs.declared.io.Print.{Ghosts as Prints}
 use Rattle.std.specs.declared.fmt.Display.{Ghosts as Displays}
+use Rattle.base.proofs.OneOutcome.{OneOutcome, alike, SeenAlike}
 use Rattle.pen.specs.Pen.{Spot}
 use Rattle.text_items.specs.Entry.{Entry}
 use Rattle.text_items.specs.Sorts.{entry_in}
@@ -57,23 +54,6 @@ use Rattle.cases.proofs.place_of.Kinds as place-of-kinds
 use Rattle.cases.proofs.place_of.Reads as place-of
 use Rattle.cases.proofs.set_row.Kinds as set-row-kinds
 use Rattle.cases.proofs.set_row.Reads as set-row
-
--- two outcomes of one call that both meet the contract are the same: the results, and what all lent memory holds at exit
-abbrev OneOutcome : {n : ℕ} (ps : List (ParamKind n)) (r : ResultKind n) → Out n ps r → Type 0
-OneOutcome {n} ps r Post =
-    (κs : Lfts n) (a : Dens κs ps) (x y : (res_t r κs).Denot) (v w : Lasts (ended_of n ps r) κs a) →
-    Post κs a x (at_exit (ended_of n ps r) κs a v) →
-    Post κs a y (at_exit (ended_of n ps r) κs a w) →
-    (x ≡ y) × (v ≡ w)
-
--- the same of what is seen of an outcome, as of the bytes behind a returned slice
-module _ {K : Type 0} {A R S X : K → Type 0} where
-  abbrev SeenAlike : ((κs : K) → A κs → R κs → S κs → Type 0) → ((κs : K) → R κs → X κs) → Type 0
-  SeenAlike Post seen = (κs : K) (a : A κs) (x y : R κs) (s t : S κs) → Post κs a x s → Post κs a y t → seen κs x ≡ seen κs y
-
--- as where the contract says what it is
-alike : {X : Type 0} {u v w : X} → u ≡ w → v ≡ w → u ≡ v
-alike p q = p ∙ sym q
 
 -- ---- what is printed: whatever the types of the output and of the number are, and whatever they can do
 
