@@ -212,6 +212,18 @@ impl<'a, P: Print, E: Print> Text<'a, P, E> {
     }
 }
 
+// Reads a text that was opened. The room for its bytes and for the book's is made here alone, and not for a name that opens nothing.
+fn read_opened(
+    rt: &impl Print,
+    err: &impl Print,
+    reader: &mut impl Read,
+    name: &[u8],
+    writing: bool,
+) -> Result<u64, Told> {
+    let mut buffer = [0u8; 65536];
+    Text::new(rt, err, name, writing).read(reader, &mut buffer)
+}
+
 // Opens a text and reads it. A name that is no UTF-8 names no text.
 fn read_named(
     rt: &(impl Print + Files),
@@ -222,8 +234,7 @@ fn read_named(
     if let Ok(path) = str::from_utf8(name)
         && let Ok(mut file) = File::open(rt, path)
     {
-        let mut buffer = [0u8; 65536];
-        return Text::new(rt, err, name, writing).read(&mut file, &mut buffer);
+        return read_opened(rt, err, &mut file, name, writing);
     }
     complain(err, name, b" cannot be opened\n");
     Err(Told)

@@ -212,7 +212,7 @@ pub fn parse(line: &[u8], year: u16) -> Result<Parsed, Wrong>
     ensures { parsed_in result ≡ parsed_of line.now year }
 {
     let skipped = text_scan::gaps_in(line);
-    let rest = wire::part(line, skipped, line.len());
+    let rest = &line[skipped..];
     if text_scan::ends_here(rest) {
         return Ok(Parsed {
             entry: Entry {

@@ -3,10 +3,11 @@ use Prim.Native.Nat.{ℕ, ◌+◌}
 use mathlib.Core.Path.{◌≡◌, sym, ap, ◌∙◌}
 use mathlib.Core.Bool.{true, false}
 use lib.Dec.{eqb, ltb}
-use lib.ListN.{take, drop}
+use lib.ListN.{take, drop, length}
 use native.Mathlib.Omega.{arith}
 use borrow.Author.Tests.{ne_eqb}
 use Rattle.std.specs.Prelude.{Some, None}
+use Rattle.wire.specs.Book.{part_of}
 use Rattle.text_items.specs.Sorts.{sort_number}
 use Rattle.text_scan.specs.declared.Wrong.{Wrong}
 use Rattle.text_scan.specs.Outcomes.{expected_number, place_within}
@@ -17,11 +18,21 @@ use Rattle.text_parse.specs.Entry.{word_of, refused_at, gathered}
 use Rattle.text_parse.proofs.EntryLaws.{word_short, other_before, front_long, parse_blank, parse_other, parse_wordless, parse_gathers}
 use Rattle.text_parse.proofs.parse.Goals as goal
 
+pub slice_bounds-rest-count : goal.slice_bounds-rest-count
+slice_bounds-rest-count c =
+    let gaps = c.gaps_in-skipped.ensures in
+    omega (arith, gaps_short c.args.line.now, gaps)
+
+pub slice_bounds-rest-start : goal.slice_bounds-rest-start
+slice_bounds-rest-start c =
+    let gaps = c.gaps_in-skipped.ensures in
+    omega (arith, gaps_short c.args.line.now, gaps)
+
 pub returns-then-ends_here : goal.returns-then-ends_here
 returns-then-ends_here c =
     let a = c.args in
     let s = a.line.now in
-    let rest : c.part-rest.result.now ≡ drop (gaps_in c.args.line.now) c.args.line.now = c.part-rest.ensures ∙ part_is_rest s c.gaps_in-skipped.result ∙ ap (λ (n : ℕ). drop n s) c.gaps_in-skipped.ensures in
+    let rest : part_of c.args.line.now c.gaps_in-skipped.result (length c.args.line.now) ≡ drop (gaps_in c.args.line.now) c.args.line.now = part_is_rest s c.gaps_in-skipped.result ∙ ap (λ (n : ℕ). drop n s) c.gaps_in-skipped.ensures in
     let ended : ends_here (drop (gaps_in c.args.line.now) c.args.line.now) ≡ true = sym (ap ends_here rest) ∙ sym c.ends_here.ensures ∙ c.if-ends_here.true in
     let blank = parse_blank s a.year ended in
     ap (refused_at 0) c.gaps_in-skipped.ensures ∙ sym blank
@@ -31,7 +42,7 @@ returns-in-Some c =
     let a = c.args in
     let s = a.line.now in
     let gaps = c.gaps_in-skipped in
-    let rest : c.part-rest.result.now ≡ drop (gaps_in c.args.line.now) c.args.line.now = c.part-rest.ensures ∙ part_is_rest s gaps.result ∙ ap (λ (n : ℕ). drop n s) gaps.ensures in
+    let rest : part_of c.args.line.now c.gaps_in-skipped.result (length c.args.line.now) ≡ drop (gaps_in c.args.line.now) c.args.line.now = part_is_rest s gaps.result ∙ ap (λ (n : ℕ). drop n s) gaps.ensures in
     let goes : ends_here (drop (gaps_in c.args.line.now) c.args.line.now) ≡ false = sym (ap ends_here rest) ∙ sym c.ends_here.ensures ∙ c.if-ends_here.false in
     let front : c.part.result.now ≡ take (gaps_in c.args.line.now) c.args.line.now = c.part.ensures ∙ part_is_front s gaps.result ∙ ap (λ (n : ℕ). take n s) gaps.ensures in
     let told : place_within (other_before c.args.line.now c.args.year) (take (gaps_in c.args.line.now) c.args.line.now) ≡ Some c.in-Some.other =
@@ -45,7 +56,7 @@ returns-in_default-word_of c =
     let a = c.args in
     let s = a.line.now in
     let gaps = c.gaps_in-skipped in
-    let rest : c.part-rest.result.now ≡ drop (gaps_in c.args.line.now) c.args.line.now = c.part-rest.ensures ∙ part_is_rest s gaps.result ∙ ap (λ (n : ℕ). drop n s) gaps.ensures in
+    let rest : part_of c.args.line.now c.gaps_in-skipped.result (length c.args.line.now) ≡ drop (gaps_in c.args.line.now) c.args.line.now = part_is_rest s gaps.result ∙ ap (λ (n : ℕ). drop n s) gaps.ensures in
     let goes : ends_here (drop (gaps_in c.args.line.now) c.args.line.now) ≡ false = sym (ap ends_here rest) ∙ sym c.ends_here.ensures ∙ c.if-ends_here.false in
     let front : c.part.result.now ≡ take (gaps_in c.args.line.now) c.args.line.now = c.part.ensures ∙ part_is_front s gaps.result ∙ ap (λ (n : ℕ). take n s) gaps.ensures in
     let told : place_within (other_before c.args.line.now c.args.year) (take (gaps_in c.args.line.now) c.args.line.now) ≡ None =
@@ -59,7 +70,7 @@ overflow_add-skipped c =
     let a = c.args in
     let s = a.line.now in
     let gaps = c.gaps_in-skipped in
-    let rest : c.part-rest.result.now ≡ drop (gaps_in c.args.line.now) c.args.line.now = c.part-rest.ensures ∙ part_is_rest s gaps.result ∙ ap (λ (n : ℕ). drop n s) gaps.ensures in
+    let rest : part_of c.args.line.now c.gaps_in-skipped.result (length c.args.line.now) ≡ drop (gaps_in c.args.line.now) c.args.line.now = part_is_rest s gaps.result ∙ ap (λ (n : ℕ). drop n s) gaps.ensures in
     let w = ap (λ (r : Word). r.used) (c.in-Some-word_of.ensures.word ∙ ap word_of rest) in
     let g = gaps.ensures in
     omega (arith, gaps_short s, word_short (drop (gaps_in s) s), w, g)
@@ -69,7 +80,7 @@ returns c =
     let a = c.args in
     let s = a.line.now in
     let gaps = c.gaps_in-skipped in
-    let rest : c.part-rest.result.now ≡ drop (gaps_in c.args.line.now) c.args.line.now = c.part-rest.ensures ∙ part_is_rest s gaps.result ∙ ap (λ (n : ℕ). drop n s) gaps.ensures in
+    let rest : part_of c.args.line.now c.gaps_in-skipped.result (length c.args.line.now) ≡ drop (gaps_in c.args.line.now) c.args.line.now = part_is_rest s gaps.result ∙ ap (λ (n : ℕ). drop n s) gaps.ensures in
     let goes : ends_here (drop (gaps_in c.args.line.now) c.args.line.now) ≡ false = sym (ap ends_here rest) ∙ sym c.ends_here.ensures ∙ c.if-ends_here.false in
     let front : c.part.result.now ≡ take (gaps_in c.args.line.now) c.args.line.now = c.part.ensures ∙ part_is_front s gaps.result ∙ ap (λ (n : ℕ). take n s) gaps.ensures in
     let told : place_within (other_before c.args.line.now c.args.year) (take (gaps_in c.args.line.now) c.args.line.now) ≡ None =
