@@ -11,7 +11,7 @@ ghost use Rattle.element_input.specs.Input.{input_in};
 use element_file::Reading;
 use element_pieces::Inflow;
 use element_table::Table;
-use refill::{Failed, Pieces};
+use refill::{EndingPieces, Failed};
 use refusals::Refusal;
 use std::io;
 
@@ -30,7 +30,7 @@ impl File {
     }
 }
 
-impl Pieces for File {
+impl EndingPieces for File {
     ghost holds = { λ x. x.flow.held };
 
     ghost over = { λ x. x.flow.dead };

@@ -1,4 +1,4 @@
-// Cases of the indices, their decimals, the year report and a book taken in pieces, from a text on standard input. Its lines:
+// Cases of the indices, their decimals, the year report, a book taken in pieces and the loop over a reading, from a text on standard input. Its lines:
 //   -- WORDS                   a heading, printed as it is
 //   # WORDS                    a comment, passed over, as is a line of nothing
 //   ledger THERE | YEAR | NN VN VVN | EVENTS SHORT
@@ -20,8 +20,14 @@
 //                              a dead rest (1) or not (0), with an all-zero map of so many bytes: the answer, accepted events, refused records, bytes
 //                              held, and whether the rest is dead. The buffer stays as the call leaves it
 //     end REFUSED HELD DEAD    the end of such a feed: the answer, refused records, and whether a length was broken
+//     turns LEFT HELD          a turn, and then all turns, of a reading that holds so many bytes of the buffer, is over at four and takes an even count alone,
+//                              where so many bytes are left to come, two at a time: of the turn whether it goes on (1), is over (0) or failed (2), and the bytes
+//                              held; of all turns whether they end (0) or failed (2), the bytes held, and those left. The buffer stays as the calls leave it
 // Words are told by their first letters, and numbers are found whatever stands between them. What begins as no line or case does is printed as such.
 #![tactic(auto)]
+
+ghost use Rattle.std.specs.Prelude.{◌≡◌, length};
+ghost use Rattle.std.proofs.Common.{◌∙◌};
 
 use book_pieces::Feed;
 use codes::Set;
@@ -29,7 +35,9 @@ use decimal::Decimal;
 use index::{Index, Level};
 use ledger::Ledger;
 use ratio::Fraction;
+use refill::Failed;
 use refusals::Refusal;
+use std::io;
 
 // ---- what is printed
 
@@ -115,6 +123,55 @@ fn feed_of(ledger: Ledger, refused: u64, held: u64, dead: u64) -> Feed {
     }
 }
 
+// ---- a reading in pieces that says no more than `refill`'s loop asks
+
+// So many bytes, two at a time.
+#[derive(Drop)]
+struct Twos {
+    left: usize,
+}
+
+impl io::Read for Twos {
+    fn read(&mut self, buffer: &mut [u8]) -> io::Result<usize> {
+        let n = buffer.len().min(self.left).min(2);
+        buffer[..n].fill(7);
+        self.left -= n;
+        Ok(n)
+    }
+}
+
+// A reading that is over at four bytes, and takes an even count alone.
+#[derive(Drop)]
+struct Evens {
+    held: usize,
+}
+
+impl refill::Pieces for Evens {
+    ghost holds = { λ x. x.held };
+
+    ghost came = { λ begun x b turns. length b ≡ 10 };
+
+    fn held(&self) -> usize {
+        self.held
+    }
+
+    fn is_over(&self) -> bool {
+        4 <= self.held
+    }
+
+    fn take_piece(&mut self, _buffer: &mut [u8], filled: usize) -> Result<(), Failed> {
+        if filled % 2 == 1 {
+            return Err(Failed);
+        }
+        self.held = filled;
+        Ok(())
+    }
+
+    ghost nothing = { λ begun x b b₁ turns r on a. on.long ∙ a };
+
+    ghost within = { λ begun x b turns most l a. a };
+}
+
 // A ledger and a buffer.
 #[derive(Drop)]
 struct Bench {
@@ -158,6 +215,20 @@ impl Bench {
         cases::write(out, b"\n");
     }
 
+    // A turn of the loop and then all turns, over a reading that is neither a book nor a file.
+    fn go_on(&mut self, out: &impl Print, left: usize, held: usize) {
+        let mut twos = Twos { left };
+        let mut evens = Evens { held };
+        let turn = refill::take_next(&mut twos, &mut evens, &mut self.buffer);
+        cases::write_number(out, turn.map_or(2, u64::from));
+        cases::write_number(out, evens.held);
+        let turns = refill::take_all(&mut twos, &mut evens, &mut self.buffer);
+        cases::write_number(out, turns.map_or(2, |()| 0));
+        cases::write_number(out, evens.held);
+        cases::write_number(out, twos.left);
+        cases::write(out, b"\n");
+    }
+
     // Prints what a case comes to.
     fn run(&mut self, out: &impl Print, what: &[u8]) {
         let v = cases::first_numbers(what).values;
@@ -170,6 +241,7 @@ impl Bench {
             Some(b'r') => print_report(out, self.ledger, v[0]),
             Some(b'p') => self.take_piece(out, v),
             Some(b'e') => print_end(out, feed_of(self.ledger, v[0], v[1], v[2])),
+            Some(b't') => self.go_on(out, v[0] as usize, v[1] as usize),
             _ => wrong(out, what),
         }
     }

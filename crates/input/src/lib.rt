@@ -13,7 +13,7 @@ ghost use Rattle.input.specs.Input.{read_either};
 use book::Read;
 use book_pieces::Feed;
 use ledger::Ledger;
-use refill::{Failed, Pieces};
+use refill::{EndingPieces, Failed};
 use std::io;
 
 // A feed with its map: a reading in pieces.
@@ -36,7 +36,7 @@ impl Lent {
     }
 }
 
-impl Pieces for Lent {
+impl EndingPieces for Lent {
     ghost holds = { λ x. x.feed.held };
 
     ghost over = { λ x. x.feed.dead };

@@ -49,6 +49,29 @@ pub trait Pieces {
     // how many bytes at the buffer's front it holds
     ghost holds: { Self → ℕ };
 
+    // begun so, what has come within so many turns is held, with a buffer
+    ghost came: { Self → Self → List ℕ → ℕ → Type 0 };
+
+    fn held(&self) -> usize
+        ensures { result ≡ holds self.now };
+
+    // Whether no record can follow.
+    fn is_over(&self) -> bool;
+
+    // Takes the first `filled` bytes of the buffer; a piece that is refused leaves all as it was.
+    fn take_piece(&mut self, buffer: &mut [u8], filled: usize) -> Result<(), Failed>
+        ensures { (begun : Self) (b : List ℕ) (turns : ℕ) → length b ≤ room → Refilled b (holds self.old) (filled_in (holds self.old) (Ok (Some filled))) buffer.old → came begun self.old b turns → came begun self.new buffer.new (turns + 1) };
+
+    ghost nothing: { (begun now : Self) (b b₁ : List ℕ) (turns : ℕ) (r : Filled) → Refilled b (holds now) r b₁ → came begun now b turns → came begun now b₁ (turns + 1) };
+
+    ghost within: { (begun now : Self) (b : List ℕ) (turns most : ℕ) → turns ≤ most → came begun now b turns → came begun now b most };
+}
+
+// The same of a reading that says by what it holds whether a record can follow.
+pub trait EndingPieces {
+    // how many bytes at the buffer's front it holds
+    ghost holds: { Self → ℕ };
+
     // whether no record can follow what it holds
     ghost over: { Self → Bool };
 
@@ -69,6 +92,31 @@ pub trait Pieces {
     ghost nothing: { (begun now : Self) (b b₁ : List ℕ) (turns : ℕ) (r : Filled) → Refilled b (holds now) r b₁ → came begun now b turns → came begun now b₁ (turns + 1) };
 
     ghost within: { (begun now : Self) (b : List ℕ) (turns most : ℕ) → turns ≤ most → came begun now b turns → came begun now b most };
+}
+
+// Such a reading is one that the loop goes on with, as it stands.
+impl<P: EndingPieces> Pieces for P {
+    ghost holds = { P.EndingPieces.holds };
+
+    ghost came = { P.EndingPieces.came };
+
+    fn held(&self) -> usize {
+        EndingPieces::held(self)
+    }
+
+    fn is_over(&self) -> bool
+        ensures { result ≡ P.over self.now }
+    {
+        EndingPieces::is_over(self)
+    }
+
+    fn take_piece(&mut self, buffer: &mut [u8], filled: usize) -> Result<(), Failed> {
+        EndingPieces::take_piece(self, buffer, filled)
+    }
+
+    ghost nothing = { P.EndingPieces.nothing };
+
+    ghost within = { P.EndingPieces.within };
 }
 
 // One piece more, where a record can still follow: whether the reading goes on.

@@ -4,7 +4,7 @@ use Rattle.element_pieces.specs.Inflow.{reading_of, taker}
 use Rattle.element_pieces.proofs.LinkLaws.{goes_on, stays}
 use Rattle.refill.specs.Arrive.{Arrived}
 use Rattle.refill.proofs.ArriveLaws.{turn_taken}
-use Rattle.element_input.proofs.FilePieces.take_piece.Goals as goal
+use Rattle.element_input.proofs.FileEndingPieces.take_piece.Goals as goal
 
 -- a piece came
 pub returns-in-Ok : goal.returns-in-Ok

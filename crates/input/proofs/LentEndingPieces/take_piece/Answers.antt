@@ -5,7 +5,7 @@ use Rattle.book_pieces.specs.Calls.{taker}
 use Rattle.book_pieces.proofs.CallLaws.{reading, goes_on, stays}
 use Rattle.refill.specs.Arrive.{Arrived}
 use Rattle.refill.proofs.ArriveLaws.{turn_taken}
-use Rattle.input.proofs.LentPieces.take_piece.Goals as goal
+use Rattle.input.proofs.LentEndingPieces.take_piece.Goals as goal
 
 -- a piece came
 pub returns-in-Ok : goal.returns-in-Ok
