@@ -21,8 +21,9 @@
 //                              held, and whether the rest is dead. The buffer stays as the call leaves it
 //     end REFUSED HELD DEAD    the end of such a feed: the answer, refused records, and whether a length was broken
 //     turns LEFT HELD          a turn, and then all turns, of a reading that holds so many bytes of the buffer, is over at four and takes an even count alone,
-//                              where so many bytes are left to come, two at a time: of the turn whether it goes on (1), is over (0) or failed (2), and the bytes
-//                              held; of all turns whether they end (0) or failed (2), the bytes held, and those left. The buffer stays as the calls leave it
+//                              where so many bytes are left to come, two at a time: of the turn whether the reading goes on (1), does not (0) or failed (2),
+//                              and the bytes held; of all turns whether they end (0) or failed (2), the bytes held, and those left. The buffer stays as the
+//                              calls leave it
 // Words are told by their first letters, and numbers are found whatever stands between them. What begins as no line or case does is printed as such.
 #![tactic(auto)]
 
